@@ -1,0 +1,182 @@
+-- Laws of bits by place: past the end, how many, what is left after some, and bytes after them; of windows; and of the number that
+-- bits spell.
+use mathlib.Core.Path.{_≡_, refl, sym, ap, _∙_}
+use mathlib.Core.Bool.{Bool, true, false}
+use mathlib.Core.List.{List, [], _∷_, _++_, append-assoc}
+use Prim.Native.Nat.{ℕ, zero, suc, _+_, _-_, _*_, _/_, _%_, _^_, _≤_, _<_}
+use native.Mathlib.Nat.{add-zero, add-assoc, add-mul, mul-assoc, mul-left-comm, mul-one, zero-sub, sub-zero, zero-div, pow-succ', le-of-eq, mul-add-div-right, div-eq-of-lt, mul-add-mod-self-right, mod-eq-of-lt}
+use native.Mathlib.Numerals.{add-one}
+use native.Mathlib.Omega.{arith}
+use lib.Dec.{eqb}
+use lib.ListN.{length, getD, take, drop, length-take, length-drop, take-append-drop, List·getD-append, List·getD-eq-default}
+use lib.Pow.{pow-pos}
+use Rattle.standard.specs.Bits.{bitAt, bits, window, one, valueFrom, value, field, flag, fieldAt}
+
+-- ---- bits by place
+pub bitAt-past : (s : List ℕ) (i : ℕ) → length s ≤ i / 8 → bitAt s i ≡ false
+unfolding bitAt
+bitAt-past s i h = rw (List·getD-eq-default s 0 h, zero-div)
+
+pub length-bits : (s : List ℕ) (at n : ℕ) → length (bits s at n) ≡ n
+unfolding bits
+length-bits s at zero = refl
+length-bits s at (suc n) = ap suc (length-bits s (suc at) n)
+
+-- what is left after k bits, whatever k is
+pub drop-bits : (k : ℕ) (s : List ℕ) (at n : ℕ) → drop k (bits s at n) ≡ bits s (at + k) (n - k)
+unfolding bits
+drop-bits zero s at n = rw (add-zero, sub-zero)
+drop-bits (suc k) s at zero = rw zero-sub
+drop-bits (suc k) s at (suc n) =
+    drop-bits k s (suc at) n ∙ ap (λ (i : ℕ). bits s i (n - k)) p ∙ ap (bits s (at + suc k)) q
+  where
+    p : suc at + k ≡ at + suc k
+    p = omega arith
+
+    q : n - k ≡ suc n - suc k
+    q = omega arith
+
+-- bytes after them change no bit of xs
+pub bitAt-append : (xs ys : List ℕ) (i : ℕ) → i < 8 * length xs → bitAt (xs ++ ys) i ≡ bitAt xs i
+unfolding bitAt
+bitAt-append xs ys i h =
+    let p : i / 8 < length xs = omega arith in
+    ap (λ (b : ℕ). eqb (b / 2 ^ (7 - i % 8) % 2) 1) (List·getD-append xs ys 0 (i / 8) p)
+
+pub bits-append : (xs ys : List ℕ) (n at : ℕ) → at + n ≤ 8 * length xs → bits (xs ++ ys) at n ≡ bits xs at n
+unfolding bits
+bits-append xs ys zero at h = refl
+bits-append xs ys (suc n) at h =
+    let p : at < 8 * length xs = omega arith in
+    let q : suc at + n ≤ 8 * length xs = omega arith in
+    λ i. bitAt-append xs ys at p i ∷ bits-append xs ys n (suc at) q i
+
+pub bits-add : (s : List ℕ) (m at n : ℕ) → bits s at (m + n) ≡ bits s at m ++ bits s (at + m) n
+unfolding bits
+bits-add s zero at n =
+    let p : 0 + n ≡ n = omega arith in
+    let q : at ≡ at + 0 = omega arith in
+    λ j. bits s (q j) (p j)
+bits-add s (suc m) at n =
+    let p : suc m + n ≡ suc (m + n) = omega arith in
+    let q : suc at + m ≡ at + suc m = omega arith in
+    ap (bits s at) p ∙ ap (λ (l : List Bool). bitAt s at ∷ l) (bits-add s m (suc at) n ∙ ap (λ (i : ℕ). bits s (suc at) m ++ bits s i n) q)
+
+pub take-bits : (n : ℕ) (s : List ℕ) (at w : ℕ) → n ≤ w → take n (bits s at w) ≡ bits s at n
+unfolding bits
+take-bits zero s at w h = refl
+take-bits (suc n) s at zero h = absurd (omega arith)
+take-bits (suc n) s at (suc w) h = ap (λ (l : List Bool). bitAt s at ∷ l) (take-bits n s (suc at) w (omega arith))
+
+-- ---- windows
+pub window-nil : (s : List ℕ) (at e : ℕ) → e ≤ at → window s at e ≡ []
+unfolding bits window
+window-nil s at e h = let p : e - at ≡ 0 = omega arith in ap (bits s at) p
+
+-- one bit is read, and the rest stays
+pub window-cons : (s : List ℕ) (at e : ℕ) → at < e → window s at e ≡ bitAt s at ∷ window s (at + 1) e
+unfolding bits window
+window-cons s at e h =
+    let p : e - at ≡ suc (e - (at + 1)) = omega arith in
+    ap (bits s at) p ∙ ap (λ (i : ℕ). bitAt s at ∷ bits s i (e - (at + 1))) (sym (add-one at))
+
+-- k bits are read, whatever k is
+pub window-drop : (k : ℕ) (s : List ℕ) (at e : ℕ) → drop k (window s at e) ≡ window s (at + k) e
+unfolding window
+window-drop k s at e = let p : (e - at) - k ≡ e - (at + k) = omega arith in drop-bits k s at (e - at) ∙ ap (bits s (at + k)) p
+
+pub window-length : (s : List ℕ) (at e : ℕ) → length (window s at e) ≡ e - at
+unfolding window
+window-length s at e = length-bits s at (e - at)
+
+-- a slot of n bits, as its reader has it
+pub window-bits : (s : List ℕ) (at n : ℕ) → window s at (at + n) ≡ bits s at n
+unfolding window
+window-bits s at n = let p : (at + n) - at ≡ n = omega arith in ap (bits s at) p
+
+-- ---- the number that bits spell
+pub one-le : (x : Bool) → one x ≤ 1
+one-le true = omega arith
+one-le false = omega arith
+
+pub one-is : (x : Bool) → eqb (one x) 1 ≡ x
+one-is true = refl
+one-is false = refl
+
+pub value-lt : (b : List Bool) (a i n : ℕ) → a < 2 ^ i → length b ≤ n → valueFrom a b < 2 ^ (i + n)
+unfolding valueFrom
+value-lt [] a i n h l = up n
+  where
+    up : (n : ℕ) → a < 2 ^ (i + n)
+    up zero = rw add-zero h
+    up (suc n) = let q : i + suc n ≡ suc (i + n) = omega arith in rw (q, pow-succ') (omega (arith, up n))
+value-lt (x ∷ b) a i zero h l = absurd (omega arith)
+value-lt (x ∷ b) a i (suc n) h l =
+    let q : suc i + n ≡ i + suc n = omega arith in
+    let k : 2 * a + one x < 2 ^ suc i = rw pow-succ' (omega (arith, one-le x)) in
+    rw q at (value-lt b (2 * a + one x) (suc i) n k (omega arith))
+
+pub field-lt : (b : List Bool) (at n : ℕ) → field b at n < 2 ^ n
+unfolding field value
+field-lt b at n =
+    let q : 0 + n ≡ n = omega arith in
+    rw q at (value-lt (take n (drop at b)) 0 0 n (omega arith) (simp length-take (omega arith)))
+
+-- what a record of w bits has at k, its bytes have at at + k
+pub field-bits : (s : List ℕ) (at w k n : ℕ) → k + n ≤ w → field (bits s at w) k n ≡ fieldAt s (at + k) n
+unfolding field fieldAt
+field-bits s at w k n h = ap (λ (b : List Bool). value (take n b)) (drop-bits k s at w) ∙ ap value (take-bits n s (at + k) (w - k) (omega arith))
+
+pub fieldAt-lt : (s : List ℕ) (at n : ℕ) → fieldAt s at n < 2 ^ n
+unfolding fieldAt value
+fieldAt-lt s at n =
+    let q : 0 + n ≡ n = omega arith in
+    rw q at (value-lt (bits s at n) 0 0 n (omega arith) (le-of-eq (length-bits s at n)))
+
+-- ---- a field of bits that were read as one number: m bits stand after it
+value-shift : (y : List Bool) (a : ℕ) → valueFrom a y ≡ a * 2 ^ length y + valueFrom 0 y
+unfolding valueFrom
+value-shift [] a = simp mul-one (omega arith)
+value-shift (x ∷ y) a =
+    let p = 2 ^ length y in
+    value-shift y (2 * a + one x)
+    ∙ ap (λ (n : ℕ). n + valueFrom 0 y) (add-mul (2 * a) (one x) p ∙ ap (λ (n : ℕ). n + one x * p) (mul-assoc 2 a p ∙ mul-left-comm 2 a p ∙ ap (λ (n : ℕ). a * n) (sym (pow-succ' 2 (length y)))))
+    ∙ add-assoc (a * 2 ^ suc (length y)) (one x * p) (valueFrom 0 y)
+    ∙ ap (λ (n : ℕ). a * 2 ^ suc (length y) + n) (sym (value-shift y (2 * 0 + one x) ∙ ap (λ (n : ℕ). n * p + valueFrom 0 y) zero-one))
+  where
+    zero-one : 2 * 0 + one x ≡ one x
+    zero-one = omega arith
+
+value-append : (x y : List Bool) (a : ℕ) → valueFrom a (x ++ y) ≡ valueFrom (valueFrom a x) y
+unfolding valueFrom
+value-append [] y a = refl
+value-append (z ∷ x) y a = value-append x y (2 * a + one z)
+
+value-below : (b : List Bool) (n : ℕ) → length b ≡ n → value b < 2 ^ n
+unfolding value
+value-below b n e = let q : 0 + n ≡ n = omega arith in rw q at (value-lt b 0 0 n (omega arith) (omega arith))
+
+value-two : (x y : List Bool) (n : ℕ) → length y ≡ n → value (x ++ y) ≡ value x * 2 ^ n + value y
+unfolding value
+value-two x y n e = value-append x y 0 ∙ value-shift y (valueFrom 0 x) ∙ ap (λ (k : ℕ). valueFrom 0 x * 2 ^ k + valueFrom 0 y) e
+
+cut-out : (a f r n m : ℕ) → f < 2 ^ n → r < 2 ^ m → ((a * 2 ^ n + f) * 2 ^ m + r) / 2 ^ m % 2 ^ n ≡ f
+cut-out a f r n m hf hr =
+    ap (λ (k : ℕ). k % 2 ^ n) (mul-add-div-right (pow-pos m) (a * 2 ^ n + f) r ∙ ap (λ (k : ℕ). a * 2 ^ n + f + k) (div-eq-of-lt hr) ∙ add-zero (a * 2 ^ n + f))
+    ∙ mul-add-mod-self-right a (2 ^ n) f ∙ mod-eq-of-lt hf
+
+pub field-value : (b : List Bool) (k n m : ℕ) → length b ≡ k + n + m → field b k n ≡ value b / 2 ^ m % 2 ^ n
+unfolding field
+field-value b k n m e =
+    sym
+    (ap (λ (v : ℕ). v / 2 ^ m % 2 ^ n)
+    (ap value (sym (take-append-drop k b) ∙ ap (λ (l : List Bool). take k b ++ l) (sym (take-append-drop n (drop k b))) ∙ sym (append-assoc (take k b) (take n (drop k b)) (drop n (drop k b))))
+    ∙ value-two (take k b ++ take n (drop k b)) (drop n (drop k b)) m rest-long
+    ∙ ap (λ (v : ℕ). v * 2 ^ m + value (drop n (drop k b))) (value-two (take k b) (take n (drop k b)) n field-long))
+    ∙ cut-out (value (take k b)) (value (take n (drop k b))) (value (drop n (drop k b))) n m (value-below (take n (drop k b)) n field-long) (value-below (drop n (drop k b)) m rest-long))
+  where
+    rest-long : length (drop n (drop k b)) ≡ m
+    rest-long = simp length-drop (omega arith)
+
+    field-long : length (take n (drop k b)) ≡ n
+    field-long = simp (length-take, length-drop) (omega arith)

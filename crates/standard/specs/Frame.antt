@@ -1,0 +1,63 @@
+-- One frame, from its bytes and what the frames before it left (11172-3, 2.4.1.1 to 2.4.1.7): header, side information, main data, slots.
+-- The first fault decides, in document 01's order.
+use mathlib.Core.Bool.{Bool, _||_}
+use mathlib.Core.List.{List, []}
+use Prim.Native.Nat.{ℕ, _+_}
+use lib.Dec.{ltb}
+use lib.ListN.{length, take, drop}
+use Rattle.standard.specs.Told.{Told, refused, told, pick}
+use Rattle.standard.specs.Refusals.{numberOf}
+use Rattle.standard.specs.Header.{headerOf, headerSize, sideSize, mainSize, frameLength, noHeader}
+use Rattle.standard.specs.SideInfo.{sideOf, noSide}
+use Rattle.standard.specs.Slots.{Outcome, slotsOf}
+use Rattle.standard.specs.Reservoir.{Kept, untouched, keeping, reaching, adding}
+use Rattle.standard.specs.declared.FrameHeader.{FrameHeader}
+use Rattle.standard.specs.declared.SideInfo.{SideInfo}
+use Rattle.standard.specs.declared.Refusal.the-variants.{UnfitMemory, AbsentBytes, ShortReservoir}
+
+-- what a frame comes to
+pub record Step : Type 0 where
+  pub verdict : Told (Unit {0})
+  pub header : FrameHeader
+  pub info : SideInfo
+  pub length : ℕ
+  pub slots : List Outcome
+  pub kept : Kept
+
+-- a frame refused by a number: nothing is told of it, and the reservoir stays
+unfoldable pub noStep : ℕ → Step
+noStep k = record { verdict = refused k; header = noHeader; info = noSide; length = 0; slots = []; kept = untouched }
+
+-- main_data_begin reaches further back than the reservoir: no slots, and the frame's main data is kept after the old bytes
+unfoldable pub shortStep : FrameHeader → SideInfo → List ℕ → Step
+shortStep h i bytes =
+    record { verdict = refused (numberOf ShortReservoir); header = h; info = i; length = frameLength h; slots = []; kept = keeping bytes }
+
+unfoldable pub fullStep : FrameHeader → SideInfo → List ℕ → Step
+fullStep h i bytes =
+    record { verdict = told tt; header = h; info = i; length = frameLength h; slots = slotsOf h i bytes; kept = keeping bytes }
+
+-- with the frame's main data, the reservoir's bytes being `old`
+unfoldable pub withMain : FrameHeader → SideInfo → List ℕ → List ℕ → Step
+withMain h i old main =
+    pick (ltb (length old) (i .begin)) (shortStep h i (adding old main)) (fullStep h i (reaching (i .begin) old main))
+
+unfoldable pub withSide : FrameHeader → List ℕ → List ℕ → Told SideInfo → Step
+withSide h s old (refused k) = noStep k
+withSide h s old (told i) =
+    pick (ltb (length s) (frameLength h)) (noStep (numberOf AbsentBytes))
+    (withMain h i old (take (mainSize h) (drop (headerSize h + sideSize h) s)))
+
+unfoldable pub withHeader : List ℕ → List ℕ → Told FrameHeader → Step
+withHeader s old (refused k) = noStep k
+withHeader s old (told h) = withSide h s old (sideOf h s)
+
+-- the frame that starts at the first of the bytes s; bytes beyond it are ignored
+unfoldable pub frameOf : List ℕ → List ℕ → Step
+frameOf s old = withHeader s old (headerOf s)
+
+-- the call: `lent` bytes with a stated length of them, and d numbers
+unfoldable pub frameCall : List ℕ → List ℕ → ℕ → ℕ → Step
+frameCall s lent stated d =
+    pick (ltb (length lent) 4096 || ltb 4096 stated || ltb d 2304) (noStep (numberOf UnfitMemory))
+    (frameOf s (take stated lent))

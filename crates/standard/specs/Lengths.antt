@@ -1,0 +1,52 @@
+-- How many bits a scale factor has, and how many factors have so many (11172-3, 2.4.2.7, scalefac_compress; 13818-3, 2.4.3.2).
+use mathlib.Core.Bool.{Bool, true, false}
+use mathlib.Core.List.{List, [], _∷_}
+use Prim.Native.Nat.{ℕ, _+_, _-_, _*_, _/_, _%_}
+use lib.Dec.{ltb}
+use lib.ListN.{getD}
+use Rattle.standard.specs.Told.{pick}
+use Rattle.standard.specs.Bits.{one}
+
+-- MPEG-1: slen1 and slen2 of scalefac_compress; 0 for a number that has no line
+unfoldable pub slen1 : ℕ → ℕ
+slen1 c = getD (0 ∷ 0 ∷ 0 ∷ 0 ∷ 3 ∷ 1 ∷ 1 ∷ 1 ∷ 2 ∷ 2 ∷ 2 ∷ 3 ∷ 3 ∷ 3 ∷ 4 ∷ 4 ∷ []) c 0
+
+unfoldable pub slen2 : ℕ → ℕ
+slen2 c = getD (0 ∷ 1 ∷ 2 ∷ 3 ∷ 0 ∷ 1 ∷ 2 ∷ 3 ∷ 1 ∷ 2 ∷ 3 ∷ 1 ∷ 2 ∷ 3 ∷ 2 ∷ 3 ∷ []) c 0
+
+-- MPEG-2: scalefac_compress falls into three ranges. The second channel under intensity stereo goes by half of it
+unfoldable pub lowRange : Bool → ℕ → ℕ
+lowRange false c = pick (ltb c 400) 0 (pick (ltb c 500) 1 2)
+lowRange true c = pick (ltb (c / 2) 180) 0 (pick (ltb (c / 2) 244) 1 2)
+
+-- the four lengths slen1 to slen4
+unfoldable pub lowLengths : Bool → ℕ → List ℕ
+lowLengths false c =
+    pick (ltb c 400) (c / 80 ∷ c / 16 % 5 ∷ c % 16 / 4 ∷ c % 4 ∷ [])
+    (pick (ltb c 500) ((c - 400) / 20 ∷ (c - 400) / 4 % 5 ∷ (c - 400) % 4 ∷ 0 ∷ [])
+    ((c - 500) / 3 ∷ (c - 500) % 3 ∷ 0 ∷ 0 ∷ []))
+lowLengths true c =
+    pick (ltb (c / 2) 180) (c / 2 / 36 ∷ c / 2 % 36 / 6 ∷ c / 2 % 6 ∷ 0 ∷ [])
+    (pick (ltb (c / 2) 244) ((c / 2 - 180) % 64 / 16 ∷ (c / 2 - 180) % 16 / 4 ∷ (c / 2 - 180) % 4 ∷ 0 ∷ [])
+    ((c / 2 - 244) / 3 ∷ (c / 2 - 244) % 3 ∷ 0 ∷ 0 ∷ []))
+
+-- how many factors have each length, a line for each range: long blocks, then short ones with three windows to a band;
+-- then the same for the second channel under intensity stereo
+unfoldable pub lowRows : List (List ℕ)
+lowRows =
+    (6 ∷ 5 ∷ 5 ∷ 5 ∷ []) ∷
+    (6 ∷ 5 ∷ 7 ∷ 3 ∷ []) ∷
+    (11 ∷ 10 ∷ 0 ∷ 0 ∷ []) ∷
+    (9 ∷ 9 ∷ 9 ∷ 9 ∷ []) ∷
+    (9 ∷ 9 ∷ 12 ∷ 6 ∷ []) ∷
+    (18 ∷ 18 ∷ 0 ∷ 0 ∷ []) ∷
+    (7 ∷ 7 ∷ 7 ∷ 0 ∷ []) ∷
+    (6 ∷ 6 ∷ 6 ∷ 3 ∷ []) ∷
+    (8 ∷ 8 ∷ 5 ∷ 0 ∷ []) ∷
+    (12 ∷ 12 ∷ 12 ∷ 0 ∷ []) ∷
+    (12 ∷ 9 ∷ 9 ∷ 6 ∷ []) ∷
+    (15 ∷ 12 ∷ 9 ∷ 0 ∷ []) ∷
+    []
+
+unfoldable pub lowCounts : Bool → Bool → ℕ → List ℕ
+lowCounts intensity short c = getD lowRows (6 * one intensity + 3 * one short + lowRange intensity c) []

@@ -1,0 +1,24 @@
+-- What every answer is. First what all parts use, then the parts in the order of the standard, then laws over them.
+pub mod Told
+pub mod Refusals
+pub mod Bits
+pub mod Rows
+pub mod Same
+pub mod Codes
+pub mod Bands
+pub mod Lengths
+pub mod Header
+pub mod Record
+pub mod SideInfo
+pub mod Factors
+pub mod Numbers
+pub mod Slots
+pub mod Reservoir
+pub mod Frame
+pub mod Reorder
+pub mod Worked
+pub mod ToldLaws
+pub mod BitsLaws
+pub mod RefusalsLaws
+pub mod RowsLaws
+pub mod SameLaws

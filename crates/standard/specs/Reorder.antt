@@ -1,0 +1,43 @@
+-- The reorder of short blocks (11172-3, 2.4.3.4): window by window in each band before it, frequency by frequency after it.
+use mathlib.Core.Bool.{Bool, _&&_}
+use mathlib.Core.List.{List, [], _∷_, _++_}
+use Prim.Native.Nat.{ℕ, zero, suc, _+_, _-_, _*_}
+use lib.Dec.{ltb}
+use lib.IntN.{ℤ, pos}
+use lib.ListN.{length, getD, drop}
+use Rattle.standard.specs.Told.{Told, told, pick}
+use Rattle.standard.specs.Refusals.{refuse}
+use Rattle.standard.specs.Bands.{rowOf, shortRows}
+use Rattle.standard.specs.Header.{isMpeg1, isHeader}
+use Rattle.standard.specs.Record.{isShort, isRecord}
+use Rattle.standard.specs.declared.SampleRate.{SampleRate}
+use Rattle.standard.specs.declared.FrameHeader.{FrameHeader}
+use Rattle.standard.specs.declared.SlotRecord.{SlotRecord}
+use Rattle.standard.specs.declared.Refusal.the-variants.{UnfitMemory, MadeUpRecord}
+
+-- which number comes to each place of a band of width w from a place on: at 3 j + window the one that stood at window w + j.
+-- n frequencies from the j-th on
+unfoldable pub bandOrder : ℕ → ℕ → ℕ → ℕ → List ℕ
+bandOrder from w j zero = []
+bandOrder from w j (suc n) = (from + j) ∷ (from + w + j) ∷ (from + 2 * w + j) ∷ bandOrder from w (suc j) n
+
+-- the bands from one that starts at b, by the starts of those after it
+unfoldable pub orderFrom : ℕ → List ℕ → List ℕ
+orderFrom b [] = []
+orderFrom b (c ∷ cs) = bandOrder (3 * b) (c - b) 0 (c - b) ++ orderFrom c cs
+
+unfoldable pub orderOf : SampleRate → List ℕ
+orderOf rate = orderFrom 0 (drop 1 (getD shortRows (rowOf rate) []))
+
+unfoldable pub gathered : List ℕ → List ℤ → List ℤ
+gathered [] d = []
+gathered (i ∷ is) d = getD d i (pos 0) ∷ gathered is d
+
+-- the first 576 numbers of a short slot in their new order; others stay
+unfoldable pub reordered : SampleRate → SlotRecord → List ℤ → List ℤ
+reordered rate r d = pick (isShort (r .block)) (gathered (orderOf rate) d ++ drop 576 d) d
+
+unfoldable pub reorderOf : FrameHeader → SlotRecord → List ℤ → Told (List ℤ)
+reorderOf h r d =
+    pick (ltb (length d) 576) (refuse UnfitMemory)
+    (pick (isHeader h && isRecord (isMpeg1 (h .version)) r) (told (reordered (h .rate) r d)) (refuse MadeUpRecord))

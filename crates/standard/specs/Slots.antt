@@ -1,0 +1,129 @@
+-- The slots of a frame, cut from its main data one after the other (11172-3, 2.4.1.7 and 2.4.2.7, main_data, part2_3_length). A slot's
+-- outcome is told from exactly its own bits, its record, the header, and, where it shares, the outcome of its channel's granule 0 slot.
+use mathlib.Core.Bool.{Bool, true, false, not, _&&_, _||_}
+use mathlib.Core.List.{List, [], _∷_, _++_, map}
+use Prim.Native.Nat.{ℕ, zero, suc, _+_, _-_, _*_}
+use lib.Dec.{ltb, leb, eqb}
+use lib.IntN.{ℤ}
+use lib.ListN.{length, getD, take, drop, replicate}
+use lib.Seq.{paste}
+use Rattle.standard.specs.Told.{Told, told, pick}
+use Rattle.standard.specs.Refusals.{numberOf, refuse, SlotTold, lacking, refusedBy, counted}
+use Rattle.standard.specs.Bits.{bits}
+use Rattle.standard.specs.Header.{isMpeg1, isIntensity, isHeader, granules, channelCount}
+use Rattle.standard.specs.Record.{isShort}
+use Rattle.standard.specs.SideInfo.{isSide}
+use Rattle.standard.specs.Factors.{Source, planOf, planBits, factorsFrom, longFactors, shortFactors}
+use Rattle.standard.specs.Numbers.{Numbers, halted, got, numbersOf, padded}
+use Rattle.standard.specs.declared.SampleRate.{SampleRate}
+use Rattle.standard.specs.declared.FrameHeader.{FrameHeader}
+use Rattle.standard.specs.declared.SlotRecord.{SlotRecord}
+use Rattle.standard.specs.declared.SideInfo.{SideInfo}
+use Rattle.standard.specs.declared.Refusal.{Refusal}
+use Rattle.standard.specs.declared.Refusal.the-variants.{UnfitMemory, MadeUpRecord, MissingBits, FactorOverrun, LostShare}
+
+-- a slot's outcome: refused for a reason; or its long and short factors, and its numbers up to the count
+pub data Outcome : Type 0 where
+  stopped : Refusal → Outcome
+  holds : List ℕ → List ℕ → List ℤ → Outcome
+
+unfoldable pub isStopped : Outcome → Bool
+isStopped (stopped r) = true
+isStopped (holds long short vs) = false
+
+-- the long factors that granule 1 may share; those of a short block are 0
+unfoldable pub longOf : Outcome → List ℕ
+longOf (stopped r) = replicate 22 0
+longOf (holds long short vs) = long
+
+-- what a slot is read by, besides its record
+pub record Setting : Type 0 where
+  pub mpeg1 : Bool
+  pub intensity : Bool
+  pub rate : SampleRate
+  pub shares : List Bool
+
+unfoldable pub anyOf : List Bool → Bool
+anyOf [] = false
+anyOf (x ∷ xs) = x || anyOf xs
+
+unfoldable pub withFactors : Bool → List ℕ → Numbers → Outcome
+withFactors short fs (halted r) = stopped r
+withFactors short fs (got vs b) = holds (longFactors short fs) (shortFactors short fs) vs
+
+-- by a plan of factors, mate being the outcome of the channel's granule 0 slot
+unfoldable pub slotBy : List Source → Setting → SlotRecord → Outcome → List Bool → Outcome
+slotBy plan g r mate b =
+    pick (ltb (r .length) (planBits plan)) (stopped FactorOverrun)
+    (pick (anyOf (g .shares) && isStopped mate) (stopped LostShare)
+    (withFactors (isShort (r .block)) (factorsFrom plan (longOf mate) b) (numbersOf (g .rate) r (drop (planBits plan) b))))
+
+-- from exactly its own bits
+unfoldable pub slotOf : Setting → SlotRecord → Outcome → List Bool → Outcome
+slotOf g r mate b = slotBy (planOf (g .mpeg1) (g .intensity) (g .shares) r) g r mate b
+
+-- ---- the slots one after the other
+-- the sharing bits in force for the n-th slot: its channel's in granule 1, and none in granule 0 or a short block
+unfoldable pub sharesOf : FrameHeader → SideInfo → ℕ → SlotRecord → List Bool
+sharesOf h i n r =
+    pick (ltb n (channelCount h) || isShort (r .block)) (replicate 4 false)
+    (take 4 (drop (4 * (n - channelCount h)) (i .shares)))
+
+unfoldable pub settingOf : FrameHeader → SideInfo → ℕ → SlotRecord → Setting
+settingOf h i n r =
+    record {
+      mpeg1 = isMpeg1 (h .version);
+      intensity = eqb n 1 && isIntensity (h .channels);
+      rate = h .rate;
+      shares = sharesOf h i n r;
+    }
+
+-- the slot of the same channel in the granule before; of granule 0 nothing is shared
+unfoldable pub mateOf : FrameHeader → List Outcome → Outcome
+mateOf h done = getD done (length done - channelCount h) (stopped MissingBits)
+
+-- a slot that starts at a bit place of the main data s
+unfoldable pub slotIn : List ℕ → ℕ → Setting → SlotRecord → Outcome → Outcome
+slotIn s at g r mate =
+    pick (leb (at + r .length) (8 * length s)) (slotOf g r mate (bits s at (r .length))) (stopped MissingBits)
+
+unfoldable pub thenSlots : Outcome → (Outcome → List Outcome) → List Outcome
+thenSlots o rest = o ∷ rest o
+
+-- each slot starts where the one before it ends; `done` has the outcomes before, first to last
+unfoldable pub slotsFrom : FrameHeader → SideInfo → List ℕ → ℕ → List Outcome → List SlotRecord → List Outcome
+slotsFrom h i s at done [] = []
+slotsFrom h i s at done (r ∷ rs) =
+    thenSlots (slotIn s at (settingOf h i (length done) r) r (mateOf h done))
+    (λ (o : Outcome). slotsFrom h i s (at + r .length) (done ++ (o ∷ [])) rs)
+
+unfoldable pub slotsOf : FrameHeader → SideInfo → List ℕ → List Outcome
+slotsOf h i s = slotsFrom h i s 0 [] (take (granules h * channelCount h) (i .slots))
+
+-- ---- what is answered
+unfoldable pub slotTold : Outcome → SlotTold
+slotTold (stopped r) = record { said = refusedBy (numberOf r); long = replicate 22 0; short = replicate 39 0 }
+slotTold (holds long short vs) = record { said = counted (length vs); long = long; short = short }
+
+unfoldable pub lackingSlot : SlotTold
+lackingSlot = record { said = lacking; long = replicate 22 0; short = replicate 39 0 }
+
+-- four answers: the slots', and then lacking ones
+unfoldable pub slotsTold : List Outcome → List SlotTold
+slotsTold os = map slotTold os ++ replicate (4 - length os) lackingSlot
+
+-- the lent numbers after a slot, its own being the 576 from a place on: a refused slot changes none
+unfoldable pub numbersAfter : Outcome → ℕ → List ℤ → List ℤ
+numbersAfter (stopped r) at d = d
+numbersAfter (holds long short vs) at d = paste d at (padded vs) 576
+
+-- and after slots in turn
+unfoldable pub numbersFrom : ℕ → List Outcome → List ℤ → List ℤ
+numbersFrom at [] d = d
+numbersFrom at (o ∷ os) d = numbersFrom (at + 576) os (numbersAfter o at d)
+
+-- ---- the call on main data of any length, with d numbers lent
+unfoldable pub readSlots : FrameHeader → SideInfo → List ℕ → ℕ → Told (List Outcome)
+readSlots h i s d =
+    pick (ltb d 2304) (refuse UnfitMemory)
+    (pick (isHeader h && isSide h i) (told (slotsOf h i s)) (refuse MadeUpRecord))

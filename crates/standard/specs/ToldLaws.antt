@@ -1,0 +1,33 @@
+-- What a test that is known makes of a pick; what a reading that told something passed on the way; and of two tests that both hold.
+use mathlib.Core.Path.{_≡_, refl, ap, _∙_}
+use mathlib.Core.Bool.{Bool, true, false, _&&_}
+use Prim.Native.Nat.{ℕ}
+use native.Mathlib.Omega.{arith}
+use Rattle.standard.specs.Told.{Told, refused, told, pick}
+
+pub picked : {A : Type 0} {b : Bool} {x : A} (y : A) → b ≡ true → pick b x y ≡ x
+unfolding pick
+picked {A} {b} {x} y e = ap (λ (t : Bool). pick t x y) e
+
+pub passed : {A : Type 0} {b : Bool} (x : A) {y : A} → b ≡ false → pick b x y ≡ y
+unfolding pick
+passed {A} {b} x {y} e = ap (λ (t : Bool). pick t x y) e
+
+pub never : {A : Type 0} → false ≡ true → A
+never e = let z : _≡_ {A = ℕ} 0 1 = cc in let w : ⊥ = omega arith in absurd w
+
+-- where something was told, no refusal was met on the way
+pub no-refusal : {A : Type 0} (b : Bool) (k : ℕ) (y : Told A) (a : A) → pick b (refused k) y ≡ told a → (b ≡ false) × (y ≡ told a)
+unfolding pick
+no-refusal true k y a e = let z : _≡_ {A = ℕ} 0 1 = cc in let w : ⊥ = omega arith in absurd w
+no-refusal false k y a e = (refl, e)
+
+pub told-is : {A : Type 0} {a b : A} → told a ≡ told b → a ≡ b
+told-is e = cc
+
+pub both-of : (a b : Bool) → a && b ≡ true → (a ≡ true) × (b ≡ true)
+both-of true b e = (refl, e)
+both-of false b e = never e
+
+pub both : {a b : Bool} → a ≡ true → b ≡ true → a && b ≡ true
+both {a} {b} p q = ap (λ (x : Bool). x && b) p ∙ q

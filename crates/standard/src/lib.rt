@@ -1,0 +1,220 @@
+// What is read from a card, and what is answered. There are no functions here: the definitions of specs/ go by these types.
+
+// The document that a frame follows: ISO/IEC 11172-3, ISO/IEC 13818-3, or none (MPEG-2.5).
+pub enum MpegVersion {
+    Mpeg1,
+    Mpeg2,
+    Mpeg25,
+}
+
+pub enum Channels {
+    Mono,
+    DualMono,
+    Stereo,
+    JointStereo { intensity: bool, mid_side: bool },
+}
+
+pub enum BitRate {
+    Kbps8,
+    Kbps16,
+    Kbps24,
+    Kbps32,
+    Kbps40,
+    Kbps48,
+    Kbps56,
+    Kbps64,
+    Kbps80,
+    Kbps96,
+    Kbps112,
+    Kbps128,
+    Kbps144,
+    Kbps160,
+    Kbps192,
+    Kbps224,
+    Kbps256,
+    Kbps320,
+}
+
+pub enum SampleRate {
+    Hz8000,
+    Hz11025,
+    Hz12000,
+    Hz16000,
+    Hz22050,
+    Hz24000,
+    Hz32000,
+    Hz44100,
+    Hz48000,
+}
+
+pub enum Emphasis {
+    NoEmphasis,
+    FiftyFifteen,
+    CcitJ17,
+}
+
+// A frame's header. The layer is always III; sizes and the row of the band tables follow from these fields.
+pub struct FrameHeader {
+    pub version: MpegVersion,
+    pub crc: bool,
+    pub bitrate: BitRate,
+    pub rate: SampleRate,
+    pub padding: bool,
+    pub channels: Channels,
+    pub copyright: bool,
+    pub original: bool,
+    pub emphasis: Emphasis,
+}
+
+// Mixed blocks are refused, so none is named.
+pub enum BlockType {
+    Long,
+    Start,
+    Short,
+    End,
+}
+
+// The side information of one slot: one granule of one channel. Beside each field stands the standard's name.
+pub struct SlotRecord {
+    pub length: u16, // part2_3_length
+    pub pairs: u16, // big_values
+    pub gain: u8, // global_gain
+    pub compress: u16, // scalefac_compress
+    pub block: BlockType, // window_switching_flag, block_type
+    pub gains: [f32; 3], // subblock_gain
+    pub tables: [u8; 3], // table_select
+    pub region0: u8, // region0_count
+    pub region1: u8, // region1_count
+    pub preflag: bool, // preflag
+    pub scale: bool, // scalefac_scale
+    pub count1: bool, // count1table_select: table B
+}
+
+// A frame's side information. The n-th slot is of granule n / channels, channel n % channels; the sharing bit (scfsi) of a
+// channel's i-th group of factors is the one at 4 x channel + i.
+pub struct SideInfo {
+    pub begin: u16, // main_data_begin
+    pub shares: [bool; 8],
+    pub slots: [SlotRecord; 4],
+}
+
+// The bytes that frames left behind stand in lent memory; this says how many of them, from the first, are meant.
+pub struct Reservoir {
+    pub length: usize,
+}
+
+// Why a call, a frame or a slot is refused. Refusals.antt gives the number of each.
+pub enum Refusal {
+    UnfitMemory,
+    MadeUpRecord,
+    AbsentBytes,
+    NoSync,
+    ReservedVersion,
+    ReservedLayer,
+    OtherLayer,
+    FreeBitrate,
+    ForbiddenRate,
+    ReservedEmphasis,
+    TooManyPairs,
+    ForbiddenBlock,
+    MixedBlock,
+    ShortReservoir,
+    MissingBits,
+    FactorOverrun,
+    LostShare,
+    RegionOverrun,
+    PairOverrun,
+    NoCodeword,
+}
+
+pub enum Verdict {
+    Accepted,
+    Refused(Refusal),
+}
+
+pub enum HeaderAnswer {
+    Header(FrameHeader),
+    NoHeader(Refusal),
+}
+
+// Side information, or a refusal and blank side information.
+pub struct SideInfoAnswer {
+    pub verdict: Verdict,
+    pub info: SideInfo,
+}
+
+// What became of a slot: read, with its count of numbers up to the last that was coded; refused; or one that the frame lacks.
+pub enum SlotOutcome {
+    Read { count: u16 },
+    NotRead(Refusal),
+    Lacking,
+}
+
+// A slot's answer beside its 576 numbers: 22 long factors, and three windows of each of 13 short bands, one after the other.
+// The factors of a slot that was not read are 0.
+pub struct SlotAnswer {
+    pub outcome: SlotOutcome,
+    pub long: [u8; 22],
+    pub short: [u8; 39],
+}
+
+pub struct SlotsAnswer {
+    pub verdict: Verdict,
+    pub slots: [SlotAnswer; 4],
+}
+
+// A frame's answer. Of a refused frame, header, side information and slots are blank and the length is 0, except where only
+// the reservoir was too short: there all but the slots was read, and is told.
+pub struct FrameAnswer {
+    pub verdict: Verdict,
+    pub header: FrameHeader,
+    pub info: SideInfo,
+    pub length: usize,
+    pub slots: [SlotAnswer; 4],
+    pub reservoir: Reservoir,
+}
+
+// One codeword: what it stands for and how many bits it takes; or the bits end within one; or they start none.
+// A pair (x, y) is the value 16 x + y, a quad (v, w, x, y) the value 8 v + 4 w + 2 x + y.
+pub enum Codeword {
+    Coded { value: u8, used: usize },
+    Cut,
+    Alien,
+}
+
+// Where the tables of a slot's pairs change: positions among its 576 numbers. Or there is no band to change at.
+pub enum Regions {
+    Split { first: u16, second: u16 },
+    NoRegions,
+}
+
+// How large a number is, with the escape bits that say so; or the bits end within them.
+pub enum Magnitude {
+    Sized { value: u32, used: usize },
+    Unsized,
+}
+
+// A number with its escape and sign bits, and how many these are; or the bits end within them.
+pub enum Number {
+    Whole { value: i32, used: usize },
+    Broken,
+}
+
+// A pair with all of its bits, or why the slot is refused there.
+pub enum Pair {
+    Two { x: i32, y: i32, used: usize },
+    NoPair(Refusal),
+}
+
+// A quad with all of its bits; or one that does not end, and is dropped; or bits that start no quad.
+pub enum Quad {
+    Four {
+        v: i32,
+        w: i32,
+        x: i32,
+        y: i32,
+        used: usize,
+    },
+    Dropped,
+    NoQuad,
+}
