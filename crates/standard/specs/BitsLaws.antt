@@ -4,7 +4,7 @@ use mathlib.Core.Path.{_≡_, refl, sym, ap, _∙_}
 use mathlib.Core.Bool.{Bool, true, false}
 use mathlib.Core.List.{List, [], _∷_, _++_, append-assoc}
 use Prim.Native.Nat.{ℕ, zero, suc, _+_, _-_, _*_, _/_, _%_, _^_, _≤_, _<_}
-use native.Mathlib.Nat.{add-zero, add-assoc, add-mul, mul-assoc, mul-left-comm, mul-one, zero-sub, sub-zero, zero-div, pow-succ', le-of-eq, mul-add-div-right, div-eq-of-lt, mul-add-mod-self-right, mod-eq-of-lt}
+use native.Mathlib.Nat.{add-zero, add-assoc, add-mul, mul-assoc, mul-left-comm, mul-comm, mul-one, zero-sub, sub-zero, zero-div, pow-succ', le-of-eq, mul-add-div-right, div-eq-of-lt, div-div-eq-div-mul, mul-add-mod-self-right, mod-eq-of-lt}
 use native.Mathlib.Numerals.{add-one}
 use native.Mathlib.Omega.{arith}
 use lib.Dec.{eqb}
@@ -180,3 +180,78 @@ field-value b k n m e =
 
     field-long : length (take n (drop k b)) ≡ n
     field-long = simp (length-take, length-drop) (omega arith)
+
+-- ---- a field of up to 16 bits lies within three bytes
+bit-one : (y : ℕ) → one (eqb (y % 2) 1) ≡ y % 2
+bit-one y = go (y % 2) (omega arith)
+  where
+    go : (r : ℕ) → r < 2 → one (eqb r 1) ≡ r
+    go zero h = refl
+    go (suc zero) h = refl
+    go (suc (suc r)) h = absurd (omega arith)
+
+byte-bit : (s : List ℕ) (i k at : ℕ) → k < 8 → at ≡ 8 * i + k → one (bitAt s at) ≡ getD s i 0 / 2 ^ (7 - k) % 2
+unfolding bitAt
+byte-bit s i k at h e =
+    let p : at / 8 ≡ i = omega arith in
+    let q : at % 8 ≡ k = omega arith in
+    (λ j. one (eqb (getD s (p j) 0 / 2 ^ (7 - q j) % 2) 1)) ∙ bit-one (getD s i 0 / 2 ^ (7 - k))
+
+-- the first n bits of a byte are its upper part
+upper-part : (s : List ℕ) (i : ℕ) → getD s i 0 < 256 → (n : ℕ) → n ≤ 8 → fieldAt s (8 * i) n ≡ getD s i 0 / 2 ^ (8 - n)
+unfolding fieldAt value valueFrom bits
+upper-part s i h zero l = omega arith
+upper-part s i h (suc n) l =
+    let x = getD s i 0 in
+    let k : n + 1 ≡ suc n = omega arith in
+    let d : 8 - n ≡ suc (7 - n) = omega arith in
+    let e : 8 - suc n ≡ 7 - n = omega arith in
+    let halves : x / 2 ^ (8 - n) ≡ x / 2 ^ (7 - n) / 2 = ap (λ (m : ℕ). x / 2 ^ m) d ∙ ap (λ (m : ℕ). x / m) (pow-succ' 2 (7 - n) ∙ mul-comm 2 (2 ^ (7 - n))) ∙ sym (div-div-eq-div-mul x (2 ^ (7 - n)) 2) in
+    let low : one (bitAt s (8 * i + n)) ≡ x / 2 ^ (7 - n) % 2 = byte-bit s i n (8 * i + n) (omega arith) refl in
+    let first = upper-part s i h n (omega arith) in
+    ap (λ (m : ℕ). value (bits s (8 * i) m)) (sym k)
+    ∙ ap value (bits-add s n (8 * i) 1)
+    ∙ value-two (bits s (8 * i) n) (bits s (8 * i + n) 1) 1 (length-bits s (8 * i + n) 1)
+    ∙ (λ j. (first ∙ halves) j * 2 + last (one (bitAt s (8 * i + n))) j)
+    ∙ whole (x / 2 ^ (7 - n)) low
+    ∙ ap (λ (m : ℕ). x / 2 ^ m) (sym e)
+  where
+    last : (v : ℕ) → 2 * 0 + v ≡ v
+    last v = omega arith
+
+    whole : (y : ℕ) {v : ℕ} → v ≡ y % 2 → y / 2 * 2 + v ≡ y
+    whole y e = omega arith
+
+pub byte-value : (s : List ℕ) (i : ℕ) → getD s i 0 < 256 → fieldAt s (8 * i) 8 ≡ getD s i 0
+byte-value s i h = upper-part s i h 8 (omega arith) ∙ all-of-it (getD s i 0)
+  where
+    all-of-it : (x : ℕ) → x / 1 ≡ x
+    all-of-it x = omega arith
+
+-- the 24 bits of three bytes
+three-bytes : (s : List ℕ) (i : ℕ) → getD s i 0 < 256 → getD s (i + 1) 0 < 256 → getD s (i + 2) 0 < 256
+    → fieldAt s (8 * i) 24 ≡ getD s i 0 * 65536 + getD s (i + 1) 0 * 256 + getD s (i + 2) 0
+unfolding fieldAt
+three-bytes s i h0 h1 h2 =
+    let p : 8 * i + 8 ≡ 8 * (i + 1) = omega arith in
+    let q : 8 * i + 16 ≡ 8 * (i + 2) = omega arith in
+    ap value (bits-add s 16 (8 * i) 8 ∙ ap (λ (l : List Bool). l ++ bits s (8 * i + 16) 8) (bits-add s 8 (8 * i) 8))
+    ∙ value-two (bits s (8 * i) 8 ++ bits s (8 * i + 8) 8) (bits s (8 * i + 16) 8) 8 (length-bits s (8 * i + 16) 8)
+    ∙ (λ j. value-two (bits s (8 * i) 8) (bits s (8 * i + 8) 8) 8 (length-bits s (8 * i + 8) 8) j * 2 ^ 8 + value (bits s (q j) 8))
+    ∙ sum (byte-value s i h0) (ap (λ (m : ℕ). value (bits s m 8)) p ∙ byte-value s (i + 1) h1) (byte-value s (i + 2) h2)
+  where
+    sum : {a b c x y z : ℕ} → a ≡ x → b ≡ y → c ≡ z → (a * 2 ^ 8 + b) * 2 ^ 8 + c ≡ x * 65536 + y * 256 + z
+    sum p q r = omega arith
+
+-- and a field of m bits cut out of them
+pub field-in-three : (s : List ℕ) (at m : ℕ) → m ≤ 16
+    → getD s (at / 8) 0 < 256 → getD s (at / 8 + 1) 0 < 256 → getD s (at / 8 + 2) 0 < 256
+    → fieldAt s at m ≡ (getD s (at / 8) 0 * 65536 + getD s (at / 8 + 1) 0 * 256 + getD s (at / 8 + 2) 0) / 2 ^ (24 - at % 8 - m) % 2 ^ m
+unfolding fieldAt
+field-in-three s at m h h0 h1 h2 =
+    let e : 8 * (at / 8) + at % 8 ≡ at = omega arith in
+    let l : length (bits s (8 * (at / 8)) 24) ≡ at % 8 + m + (24 - at % 8 - m) = omega (arith, length-bits s (8 * (at / 8)) 24) in
+    ap (λ (i : ℕ). fieldAt s i m) (sym e)
+    ∙ sym (field-bits s (8 * (at / 8)) 24 (at % 8) m (omega arith))
+    ∙ field-value (bits s (8 * (at / 8)) 24) (at % 8) m (24 - at % 8 - m) l
+    ∙ ap (λ (v : ℕ). v / 2 ^ (24 - at % 8 - m) % 2 ^ m) (three-bytes s (at / 8) h0 h1 h2)

@@ -7,28 +7,59 @@ use lib.ListN.{getD}
 use Rattle.standard.specs.Told.{pick}
 use Rattle.standard.specs.Bits.{one}
 
--- MPEG-1: slen1 and slen2 of scalefac_compress; 0 for a number that has no line
+-- MPEG-1: slen1 and slen2 of scalefac_compress 0 to 15
+unfoldable pub slenRows : List (List ℕ)
+slenRows =
+    (0 ∷ 0 ∷ []) ∷
+    (0 ∷ 1 ∷ []) ∷
+    (0 ∷ 2 ∷ []) ∷
+    (0 ∷ 3 ∷ []) ∷
+    (3 ∷ 0 ∷ []) ∷
+    (1 ∷ 1 ∷ []) ∷
+    (1 ∷ 2 ∷ []) ∷
+    (1 ∷ 3 ∷ []) ∷
+    (2 ∷ 1 ∷ []) ∷
+    (2 ∷ 2 ∷ []) ∷
+    (2 ∷ 3 ∷ []) ∷
+    (3 ∷ 1 ∷ []) ∷
+    (3 ∷ 2 ∷ []) ∷
+    (3 ∷ 3 ∷ []) ∷
+    (4 ∷ 2 ∷ []) ∷
+    (4 ∷ 3 ∷ []) ∷
+    []
+
+-- 0 for a number that has no line
 unfoldable pub slen1 : ℕ → ℕ
-slen1 c = getD (0 ∷ 0 ∷ 0 ∷ 0 ∷ 3 ∷ 1 ∷ 1 ∷ 1 ∷ 2 ∷ 2 ∷ 2 ∷ 3 ∷ 3 ∷ 3 ∷ 4 ∷ 4 ∷ []) c 0
+slen1 c = getD (getD slenRows c []) 0 0
 
 unfoldable pub slen2 : ℕ → ℕ
-slen2 c = getD (0 ∷ 1 ∷ 2 ∷ 3 ∷ 0 ∷ 1 ∷ 2 ∷ 3 ∷ 1 ∷ 2 ∷ 3 ∷ 1 ∷ 2 ∷ 3 ∷ 2 ∷ 3 ∷ []) c 0
+slen2 c = getD (getD slenRows c []) 1 0
 
--- MPEG-2: scalefac_compress falls into three ranges. The second channel under intensity stereo goes by half of it
+-- MPEG-2: a number falls into three ranges
+unfoldable pub rangeIn : ℕ → ℕ → ℕ → ℕ
+rangeIn first second c = pick (ltb c first) 0 (pick (ltb c second) 1 2)
+
+-- the range of scalefac_compress. The second channel under intensity stereo goes by half of it
 unfoldable pub lowRange : Bool → ℕ → ℕ
-lowRange false c = pick (ltb c 400) 0 (pick (ltb c 500) 1 2)
-lowRange true c = pick (ltb (c / 2) 180) 0 (pick (ltb (c / 2) 244) 1 2)
+lowRange false c = rangeIn 400 500 c
+lowRange true c = rangeIn 180 244 (c / 2)
 
 -- the four lengths slen1 to slen4
-unfoldable pub lowLengths : Bool → ℕ → List ℕ
-lowLengths false c =
+unfoldable pub ordinaryLengths : ℕ → List ℕ
+ordinaryLengths c =
     pick (ltb c 400) (c / 80 ∷ c / 16 % 5 ∷ c % 16 / 4 ∷ c % 4 ∷ [])
     (pick (ltb c 500) ((c - 400) / 20 ∷ (c - 400) / 4 % 5 ∷ (c - 400) % 4 ∷ 0 ∷ [])
     ((c - 500) / 3 ∷ (c - 500) % 3 ∷ 0 ∷ 0 ∷ []))
-lowLengths true c =
-    pick (ltb (c / 2) 180) (c / 2 / 36 ∷ c / 2 % 36 / 6 ∷ c / 2 % 6 ∷ 0 ∷ [])
-    (pick (ltb (c / 2) 244) ((c / 2 - 180) % 64 / 16 ∷ (c / 2 - 180) % 16 / 4 ∷ (c / 2 - 180) % 4 ∷ 0 ∷ [])
-    ((c / 2 - 244) / 3 ∷ (c / 2 - 244) % 3 ∷ 0 ∷ 0 ∷ []))
+
+unfoldable pub intensityLengths : ℕ → List ℕ
+intensityLengths c =
+    pick (ltb c 180) (c / 36 ∷ c % 36 / 6 ∷ c % 6 ∷ 0 ∷ [])
+    (pick (ltb c 244) ((c - 180) % 64 / 16 ∷ (c - 180) % 16 / 4 ∷ (c - 180) % 4 ∷ 0 ∷ [])
+    ((c - 244) / 3 ∷ (c - 244) % 3 ∷ 0 ∷ 0 ∷ []))
+
+unfoldable pub lowLengths : Bool → ℕ → List ℕ
+lowLengths false c = ordinaryLengths c
+lowLengths true c = intensityLengths (c / 2)
 
 -- how many factors have each length, a line for each range: long blocks, then short ones with three windows to a band;
 -- then the same for the second channel under intensity stereo

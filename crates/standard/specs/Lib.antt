@@ -18,7 +18,11 @@ pub mod Frame
 pub mod Reorder
 pub mod Worked
 pub mod ToldLaws
+pub mod Every
 pub mod BitsLaws
+pub mod CodesLaws
+pub mod BandsLaws
+pub mod LengthsLaws
 pub mod RefusalsLaws
 pub mod RowsLaws
 pub mod SameLaws

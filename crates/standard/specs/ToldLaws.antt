@@ -1,8 +1,11 @@
 -- What a test that is known makes of a pick; what a reading that told something passed on the way; and of two tests that both hold.
-use mathlib.Core.Path.{_≡_, refl, ap, _∙_}
-use mathlib.Core.Bool.{Bool, true, false, _&&_}
+use mathlib.Core.Path.{_≡_, refl, sym, ap, _∙_}
+use mathlib.Core.Bool.{Bool, true, false, not, _&&_}
 use Prim.Native.Nat.{ℕ}
+use native.Mathlib.Decide.{decLt}
 use native.Mathlib.Omega.{arith}
+use borrow.Author.Tests.{lt-ltb, le-ltb, le-leb, lt-leb}
+use lib.Dec.{ltb, leb}
 use Rattle.standard.specs.Told.{Told, refused, told, pick}
 
 pub picked : {A : Type 0} {b : Bool} {x : A} (y : A) → b ≡ true → pick b x y ≡ x
@@ -31,3 +34,8 @@ both-of false b e = never e
 
 pub both : {a b : Bool} → a ≡ true → b ≡ true → a && b ≡ true
 both {a} {b} p q = ap (λ (x : Bool). x && b) p ∙ q
+
+-- the two tests of an order are each other's opposite
+pub below-not : (m n : ℕ) → ltb m n ≡ not (leb n m)
+below-not m n =
+    elim (decLt m n) [ yes h ↦ lt-ltb m n h ∙ sym (ap not (lt-leb n m h)) | no h ↦ le-ltb m n (omega arith) ∙ sym (ap not (le-leb n m (omega arith))) ]
