@@ -22,3 +22,6 @@ pub mod BitsLaws
 pub mod RefusalsLaws
 pub mod RowsLaws
 pub mod SameLaws
+pub mod Written
+pub mod HeaderLaws
+pub mod HeaderBytes

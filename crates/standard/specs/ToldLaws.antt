@@ -1,6 +1,6 @@
--- What a test that is known makes of a pick; what a reading that told something passed on the way; and of two tests that both hold.
-use mathlib.Core.Path.{_≡_, refl, ap, _∙_}
-use mathlib.Core.Bool.{Bool, true, false, _&&_}
+-- What a test that is known makes of a pick; what a reading that told something passed on the way; and of two tests that both hold or both fail.
+use mathlib.Core.Path.{_≡_, refl, sym, ap, _∙_}
+use mathlib.Core.Bool.{Bool, true, false, _&&_, _||_}
 use Prim.Native.Nat.{ℕ}
 use native.Mathlib.Omega.{arith}
 use Rattle.standard.specs.Told.{Told, refused, told, pick}
@@ -31,3 +31,10 @@ both-of false b e = never e
 
 pub both : {a b : Bool} → a ≡ true → b ≡ true → a && b ≡ true
 both {a} {b} p q = ap (λ (x : Bool). x && b) p ∙ q
+
+pub neither-of : (a b : Bool) → a || b ≡ false → (a ≡ false) × (b ≡ false)
+neither-of true b e = never (sym e)
+neither-of false b e = (refl, e)
+
+pub neither : {a b : Bool} → a ≡ false → b ≡ false → a || b ≡ false
+neither {a} {b} p q = ap (λ (x : Bool). x || b) p ∙ q
