@@ -1,5 +1,5 @@
--- Laws of bits by place: past the end, how many, what is left after some, and bytes after them; of windows; and of the number that
--- bits spell.
+-- Laws of bits by place: past the end, how many, what is left after some, and bytes after and before them; of windows; and of the number
+-- that bits spell.
 use mathlib.Core.Path.{_≡_, refl, sym, ap, _∙_}
 use mathlib.Core.Bool.{Bool, true, false}
 use mathlib.Core.List.{List, [], _∷_, _++_, append-assoc}

@@ -1,7 +1,7 @@
 -- Bytes read to a header exactly when its bitrate and its sample rate are its version's.
 -- One way, the header's own bytes are written down and read back field by field, whatever follows them; the other, each of the fourteen
 -- and three places that a field can name holds a member.
-use mathlib.Core.Path.{_≡_, refl, sym, ap, subst, _∙_}
+use mathlib.Core.Path.{_≡_, refl, ap, subst, _∙_}
 use mathlib.Core.Bool.{Bool, true, false, not, _&&_, _||_}
 use mathlib.Core.Logic.{_↔_}
 use mathlib.Core.List.{List, [], _∷_, _++_}
@@ -9,8 +9,8 @@ use Prim.Native.Nat.{ℕ, zero, suc, _+_, _-_, _*_, _/_, _%_, _<_, _≤_}
 use native.Mathlib.Omega.{arith}
 use borrow.Author.Tests.{eqb-false, ne-eqb, le-ltb, lt-leb}
 use lib.ListN.{length, getD, length-append}
-use lib.Dec.{ltb, leb, eqb}
-use Rattle.standard.specs.Told.{Told, refused, told, pick}
+use lib.Dec.{leb, eqb}
+use Rattle.standard.specs.Told.{told, pick}
 use Rattle.standard.specs.ToldLaws.{passed, no-refusal, told-is, both-of, both, neither-of, neither}
 use Rattle.standard.specs.Bits.{one}
 use Rattle.standard.specs.BitsLaws.{one-le, one-is}

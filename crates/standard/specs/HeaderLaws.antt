@@ -4,11 +4,12 @@ use mathlib.Core.Path.{_≡_, refl, sym, ap, subst, _∙_}
 use mathlib.Core.Bool.{Bool, true, false, _&&_}
 use mathlib.Core.Logic.{_⊎_, inl, inr}
 use mathlib.Core.List.{List, [], _∷_, map}
-use Prim.Native.Nat.{ℕ, _+_, _-_, _*_, _/_, _^_, _≤_, _<_}
+use Prim.Native.Nat.{ℕ, _+_, _*_, _/_, _^_, _≤_, _<_}
 use native.Mathlib.Omega.{arith}
 use borrow.Author.Tests.{eqb-true, eq-eqb, ltb-true, leb-true}
-use lib.Dec.{ltb, leb, eqb}
+use lib.Dec.{leb, eqb}
 use lib.ListN.{length, getD}
+use Rattle.standard.specs.Told.{pick}
 use Rattle.standard.specs.ToldLaws.{both-of}
 use Rattle.standard.specs.Bits.{one}
 use Rattle.standard.specs.BitsLaws.{one-le}
@@ -152,11 +153,19 @@ own-size h e =
     between-is (least v) 1440 v (h .bitrate) (h .rate) (every-member (between (least v) 1440 v (h .bitrate)) sameRate same-rate (h .rate) (rates v) p (k .1))
 
 -- ---- of every header, made-up ones too
+pub header-size-is : (h : FrameHeader) → headerSize h ≡ pick (h .crc) 6 4
+unfolding headerSize pick
+header-size-is h = by-crc (h .crc)
+  where
+    by-crc : (b : Bool) → 4 + 2 * one b ≡ pick b 6 4
+    by-crc true = refl
+    by-crc false = refl
+
 pub header-size : (h : FrameHeader) → (4 ≤ headerSize h) × (headerSize h ≤ 6)
 unfolding headerSize
 header-size h = let k = one-le (h .crc) in (omega arith, omega arith)
 
--- so the header never takes more than there is
+-- so the header, of 6 bytes at most, never takes more than there is
 pub size-from : (h : FrameHeader) → 12 ≤ slotBytes (h .version) * bps (h .bitrate) / hz (h .rate)
 size-from h = any-size (h .version) (h .bitrate) (h .rate) .0
 

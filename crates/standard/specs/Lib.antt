@@ -25,3 +25,5 @@ pub mod SameLaws
 pub mod Written
 pub mod HeaderLaws
 pub mod HeaderBytes
+pub mod RecordBits
+pub mod SideBytes

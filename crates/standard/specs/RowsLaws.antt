@@ -1,4 +1,4 @@
--- What a place of a row holds is a member of it, and a member stands at its place.
+-- What a place of a row holds is a member of it, a member stands at its place, and a test that every value of a row passes holds of both.
 use mathlib.Core.Path.{_≡_, refl, ap, _∙_, sym, subst}
 use mathlib.Core.Bool.{Bool, true, false, _&&_, _||_}
 use mathlib.Core.List.{List, [], _∷_}
