@@ -155,9 +155,9 @@ own-size h e =
 -- ---- of every header, made-up ones too
 pub header-size-is : (h : FrameHeader) → headerSize h ≡ pick (h .crc) 6 4
 unfolding headerSize pick
-header-size-is h = by-crc (h .crc)
+header-size-is h = omega (arith, by-crc (h .crc))
   where
-    by-crc : (b : Bool) → 4 + 2 * one b ≡ pick b 6 4
+    by-crc : (b : Bool) → pick b 6 4 ≡ 4 + 2 * one b
     by-crc true = refl
     by-crc false = refl
 
