@@ -1,5 +1,5 @@
--- Laws of bits by place: past the end, how many, what is left after some, and bytes after them; of windows; and of the number that
--- bits spell.
+-- Laws of bits by place: past the end, how many, what is left after some, and bytes after and before them; of windows; and of the number
+-- that bits spell.
 use mathlib.Core.Path.{_≡_, refl, sym, ap, _∙_}
 use mathlib.Core.Bool.{Bool, true, false}
 use mathlib.Core.List.{List, [], _∷_, _++_, append-assoc}
@@ -10,6 +10,7 @@ use native.Mathlib.Omega.{arith}
 use lib.Dec.{eqb}
 use lib.ListN.{length, getD, take, drop, length-take, length-drop, take-append-drop, List·getD-append, List·getD-eq-default}
 use lib.Pow.{pow-pos}
+use lib.Seq.{getD-append-add}
 use Rattle.standard.specs.Bits.{bitAt, bits, window, one, valueFrom, value, field, flag, fieldAt}
 
 -- ---- bits by place
@@ -147,7 +148,7 @@ value-shift (x ∷ y) a =
     zero-one : 2 * 0 + one x ≡ one x
     zero-one = omega arith
 
-value-append : (x y : List Bool) (a : ℕ) → valueFrom a (x ++ y) ≡ valueFrom (valueFrom a x) y
+pub value-append : (x y : List Bool) (a : ℕ) → valueFrom a (x ++ y) ≡ valueFrom (valueFrom a x) y
 unfolding valueFrom
 value-append [] y a = refl
 value-append (z ∷ x) y a = value-append x y (2 * a + one z)
@@ -180,6 +181,36 @@ field-value b k n m e =
 
     field-long : length (take n (drop k b)) ≡ n
     field-long = simp (length-take, length-drop) (omega arith)
+
+-- ---- bits by their place among some
+pub getD-bits : (n : ℕ) (s : List ℕ) (at i : ℕ) → i < n → getD (bits s at n) i false ≡ bitAt s (at + i)
+unfolding bits
+getD-bits zero s at i h = absurd (omega arith)
+getD-bits (suc n) s at zero h = ap (bitAt s) (sym (add-zero at))
+getD-bits (suc n) s at (suc i) h = let p : suc at + i ≡ at + suc i = omega arith in getD-bits n s (suc at) i (omega arith) ∙ ap (bitAt s) p
+
+pub flag-getD : (b : List Bool) (i : ℕ) → flag b i ≡ getD b i false
+unfolding flag field value valueFrom
+flag-getD [] zero = refl
+flag-getD [] (suc i) = refl
+flag-getD (true ∷ b) zero = refl
+flag-getD (false ∷ b) zero = refl
+flag-getD (x ∷ b) (suc i) = flag-getD b i
+
+-- bytes before them move the bits of ys
+pub bitAt-after : (xs ys : List ℕ) (i : ℕ) → bitAt (xs ++ ys) (8 * length xs + i) ≡ bitAt ys i
+unfolding bitAt
+bitAt-after xs ys i =
+    let p : (8 * length xs + i) / 8 ≡ length xs + i / 8 = omega arith in
+    let q : (8 * length xs + i) % 8 ≡ i % 8 = omega arith in
+    (λ j. eqb (getD (xs ++ ys) (p j) 0 / 2 ^ (7 - q j) % 2) 1) ∙ ap (λ (b : ℕ). eqb (b / 2 ^ (7 - i % 8) % 2) 1) (getD-append-add xs ys (i / 8) 0)
+
+pub bits-after : (xs ys : List ℕ) (n at : ℕ) → bits (xs ++ ys) (8 * length xs + at) n ≡ bits ys at n
+unfolding bits
+bits-after xs ys zero at = refl
+bits-after xs ys (suc n) at =
+    let p : suc (8 * length xs + at) ≡ 8 * length xs + suc at = omega arith in
+    (λ j. bitAt-after xs ys at j ∷ bits (xs ++ ys) (p j) n) ∙ ap (λ (l : List Bool). bitAt ys at ∷ l) (bits-after xs ys n (suc at))
 
 -- ---- a field of up to 16 bits lies within three bytes
 bit-one : (y : ℕ) → one (eqb (y % 2) 1) ≡ y % 2

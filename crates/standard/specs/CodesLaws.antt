@@ -11,7 +11,7 @@ use lib.Dec.{eqb}
 use lib.ListN.{length, getD}
 use Rattle.standard.specs.Told.{pick}
 use Rattle.standard.specs.ToldLaws.{never, both-of}
-use Rattle.standard.specs.Every.{all-of, all-at}
+use Rattle.standard.specs.RowsLaws.{every, every-at}
 use Rattle.standard.specs.Codes.{Entry, entry, lowBits, pair, quad, starts, first, begun, decode, silent, table1, table2, table3, table5, table6, table7, table8, table9, table10, table11, table12, table13, table15, table16, table24, tableA, tableB, codes, published}
 use Rattle.standard.specs.declared.Codeword.{Codeword}
 use Rattle.standard.specs.declared.Codeword.the-variants.{Coded, Cut, Alien}
@@ -199,8 +199,8 @@ module _ (v : ℕ) where
   only-from (suc f) (entry u (x ∷ z) ∷ es) t (false ∷ w) i (true ∷ b) s = never s
 
 -- ---- all tables
-all-whole : all-of (whole 20) codes ≡ true
-unfolding all-of whole codes lowBits pair quad silent table1 table2 table3 table5 table6 table7 table8 table9 table10 table11 table12 table13 table15 table16 table24 tableA tableB
+all-whole : every (whole 20) codes ≡ true
+unfolding every whole codes lowBits pair quad silent table1 table2 table3 table5 table6 table7 table8 table9 table10 table11 table12 table13 table15 table16 table24 tableA tableB
 all-whole = refl
 
 silent-whole : whole 20 silent ≡ true
@@ -209,7 +209,7 @@ silent-whole = refl
 
 pub published-whole : (t : ℕ) → whole 20 (published t) ≡ true
 unfolding published
-published-whole t = all-at (whole 20) codes silent all-whole silent-whole t
+published-whole t = every-at (whole 20) silent codes silent-whole all-whole t
 
 -- whatever the bits are, they begin a codeword of the table
 pub complete : (t : ℕ) (b : List Bool) → decode (published t) b ≡ Alien → ⊥

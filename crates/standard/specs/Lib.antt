@@ -18,7 +18,6 @@ pub mod Frame
 pub mod Reorder
 pub mod Worked
 pub mod ToldLaws
-pub mod Every
 pub mod BitsLaws
 pub mod CodesLaws
 pub mod BandsLaws
@@ -26,3 +25,8 @@ pub mod LengthsLaws
 pub mod RefusalsLaws
 pub mod RowsLaws
 pub mod SameLaws
+pub mod Written
+pub mod HeaderLaws
+pub mod HeaderBytes
+pub mod RecordBits
+pub mod SideBytes

@@ -1,14 +1,16 @@
--- What a place of a row holds is a member of it, and a member stands at its place.
-use mathlib.Core.Path.{_≡_, refl, ap, _∙_, sym}
-use mathlib.Core.Bool.{Bool, true, false, _||_}
+-- What a place of a row holds is a member of it, a member stands at its place, a test that every value of a row passes holds of
+-- both, and rows of one length.
+use mathlib.Core.Path.{_≡_, refl, ap, _∙_, sym, subst}
+use mathlib.Core.Bool.{Bool, true, false, _&&_, _||_}
 use mathlib.Core.List.{List, [], _∷_}
 use Prim.Native.Nat.{ℕ, zero, suc, _<_}
 use native.Mathlib.Omega.{arith}
 use native.Mathlib.Decide.{decLt}
-use borrow.Author.Tests.{lt-ltb, le-ltb}
-use lib.Dec.{ltb}
+use borrow.Author.Tests.{lt-ltb, le-ltb, eqb-true}
+use lib.Dec.{ltb, eqb}
 use lib.ListN.{length, getD}
 use Rattle.standard.specs.Rows.{member, later, place}
+use Rattle.standard.specs.ToldLaws.{never, both-of}
 
 module _ {A : Type 0} (same : A → A → Bool) where
   -- what a place of the row holds is a member
@@ -49,3 +51,43 @@ module _ {A : Type 0} (same : A → A → Bool) where
   unfolding member place
   place-member x [] = refl
   place-member x (y ∷ ys) = place-step' (member same x ys) (place same x ys) (length ys) (same x y) (place-member x ys)
+
+-- ---- a test that every value of a row passes: computed once, it holds of what a place holds and of a member
+unfoldable pub every : {A : Type 0} → (A → Bool) → List A → Bool
+every p [] = true
+every p (y ∷ ys) = p y && every p ys
+
+module _ {A : Type 0} (p : A → Bool) where
+  pub every-at : (d : A) (ys : List A) → p d ≡ true → every p ys ≡ true → (i : ℕ) → p (getD ys i d) ≡ true
+  unfolding every
+  every-at d [] h e i = h
+  every-at d (y ∷ ys) h e zero = both-of _ _ e .0
+  every-at d (y ∷ ys) h e (suc i) = every-at d ys h (both-of (p y) _ e .1) i
+
+  pub every-member : (same : A → A → Bool) → ((x y : A) → same x y ≡ true → x ≡ y) → (x : A) (ys : List A) → every p ys ≡ true → member same x ys ≡ true → p x ≡ true
+  unfolding every member
+  every-member same s x [] e m = never m
+  every-member same s x (y ∷ ys) e m =
+      let k = both-of (p y) (every p ys) e in
+      go (same x y) (member same x ys) (s x y) (k .0) (every-member same s x ys (k .1)) m
+    where
+      go : (b m : Bool) → (b ≡ true → x ≡ y) → p y ≡ true → (m ≡ true → p x ≡ true) → b || m ≡ true → p x ≡ true
+      go true m f h g e = subst (λ (z : A). p z ≡ true) (sym (f refl)) h
+      go false m f h g e = g e
+
+  pub every-in : (d : A) (ys : List A) → every p ys ≡ true → (i : ℕ) → i < length ys → p (getD ys i d) ≡ true
+  unfolding every
+  every-in d [] e i h = absurd (omega arith)
+  every-in d (y ∷ ys) e zero h = both-of _ _ e .0
+  every-in d (y ∷ ys) e (suc i) h = every-in d ys (both-of (p y) _ e .1) i (omega arith)
+
+-- within a row it does not matter what would stand past its end
+pub getD-within : {A : Type 0} (l : List A) (i : ℕ) (d e : A) → i < length l → getD l i d ≡ getD l i e
+getD-within [] i d e h = absurd (omega arith)
+getD-within (x ∷ l) zero d e h = refl
+getD-within (x ∷ l) (suc i) d e h = getD-within l i d e (omega arith)
+
+-- rows of one length
+pub rows-long : (n : ℕ) (rows : List (List ℕ)) → every (λ (row : List ℕ). eqb (length row) n) rows ≡ true → (k : ℕ) → k < length rows
+    → length (getD rows k []) ≡ n
+rows-long n rows t k h = eqb-true (length (getD rows k [])) n (every-in (λ (row : List ℕ). eqb (length row) n) [] rows t k h)

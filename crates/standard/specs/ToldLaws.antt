@@ -1,6 +1,6 @@
--- What a test that is known makes of a pick; what a reading that told something passed on the way; and of two tests that both hold.
+-- What a test that is known makes of a pick; what a reading that told something passed on the way; and of two tests that both hold or both fail.
 use mathlib.Core.Path.{_≡_, refl, sym, ap, _∙_}
-use mathlib.Core.Bool.{Bool, true, false, not, _&&_}
+use mathlib.Core.Bool.{Bool, true, false, not, _&&_, _||_}
 use Prim.Native.Nat.{ℕ}
 use native.Mathlib.Decide.{decLt}
 use native.Mathlib.Omega.{arith}
@@ -34,6 +34,13 @@ both-of false b e = never e
 
 pub both : {a b : Bool} → a ≡ true → b ≡ true → a && b ≡ true
 both {a} {b} p q = ap (λ (x : Bool). x && b) p ∙ q
+
+pub neither-of : (a b : Bool) → a || b ≡ false → (a ≡ false) × (b ≡ false)
+neither-of true b e = never (sym e)
+neither-of false b e = (refl, e)
+
+pub neither : {a b : Bool} → a ≡ false → b ≡ false → a || b ≡ false
+neither {a} {b} p q = ap (λ (x : Bool). x || b) p ∙ q
 
 -- the two tests of an order are each other's opposite
 pub below-not : (m n : ℕ) → ltb m n ≡ not (leb n m)

@@ -14,7 +14,7 @@ use Rattle.standard.specs.ToldLaws.{picked, passed, never}
 use Rattle.standard.specs.Bits.{bitAt, window}
 use Rattle.standard.specs.BitsLaws.{window-nil, window-cons}
 use Rattle.standard.specs.CodesLaws.{more}
-use Rattle.standard.specs.Every.{getD-within}
+use Rattle.standard.specs.RowsLaws.{getD-within}
 use Rattle.standard.specs.declared.Codeword.{Codeword}
 use Rattle.standard.specs.declared.Codeword.the-variants.{Coded, Cut, Alien}
 use Rattle.tables.specs.Walk.{isLeaf, child, walk, start, lookedUp}
