@@ -1590,6 +1590,10 @@ codes =
 unfoldable pub published : ℕ → List Entry
 published t = getD codes t silent
 
+-- the next codeword of a table
+unfoldable pub wordOf : ℕ → List Bool → Codeword
+wordOf t b = decode (published t) b
+
 -- linbits: how many bits an escape has (Table B.7)
 unfoldable pub escapes : List ℕ
 escapes =

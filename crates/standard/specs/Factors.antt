@@ -2,7 +2,7 @@
 -- where it comes from; one rule reads any plan.
 use mathlib.Core.Bool.{Bool, true, false}
 use mathlib.Core.List.{List, [], _∷_, _++_}
-use Prim.Native.Nat.{ℕ, zero, suc, _+_}
+use Prim.Native.Nat.{ℕ, zero, suc, _+_, _%_}
 use lib.ListN.{length, getD, take, drop, replicate}
 use Rattle.standard.specs.Told.{pick}
 use Rattle.standard.specs.Bits.{value}
@@ -33,10 +33,12 @@ lowPlan [] ws = []
 lowPlan (n ∷ ns) [] = []
 lowPlan (n ∷ ns) (w ∷ ws) = replicate n (coded w) ++ lowPlan ns ws
 
--- `intensity` says whether this is the second channel under intensity stereo, of MPEG-2; `shares` has the sharing bits in force
+-- `intensity` says whether this is the second channel under intensity stereo, of MPEG-2, where scalefac_compress has 9 bits; `shares` has
+-- the sharing bits in force
 unfoldable pub planOf : Bool → Bool → List Bool → SlotRecord → List Source
 planOf true intensity shares r = pick (isShort (r .block)) (shortPlan (r .compress)) (longPlan (r .compress) shares)
-planOf false intensity shares r = lowPlan (lowCounts intensity (isShort (r .block)) (r .compress)) (lowLengths intensity (r .compress))
+planOf false intensity shares r =
+    lowPlan (lowCounts intensity (isShort (r .block)) (r .compress % 512)) (lowLengths intensity (r .compress % 512))
 
 -- the bits of a plan (part2_length)
 unfoldable pub planBits : List Source → ℕ

@@ -1,5 +1,6 @@
 -- A slot's numbers (11172-3, 2.4.1.7 and 2.4.2.7: big_values, count1, linbits, signs; 2.4.3.4), from exactly the bits after its factors.
--- Readers tell how many bits they used; what is left is the rest after so many.
+-- Readers tell how many bits they used; what is left is the rest after so many. `word` reads a codeword of a table: in the definition it is
+-- `wordOf`, the published code.
 use mathlib.Core.Bool.{Bool, true, false, _&&_}
 use mathlib.Core.List.{List, [], _∷_, _++_}
 use Prim.Native.Nat.{ℕ, zero, suc, _+_, _-_, _*_, _/_, _%_}
@@ -8,7 +9,7 @@ use lib.IntN.{ℤ, pos, negℤ}
 use lib.ListN.{length, getD, take, drop, replicate}
 use Rattle.standard.specs.Told.{pick}
 use Rattle.standard.specs.Bits.{value}
-use Rattle.standard.specs.Codes.{published, decode, escapeWidth}
+use Rattle.standard.specs.Codes.{escapeWidth}
 use Rattle.standard.specs.Bands.{longStart}
 use Rattle.standard.specs.Record.{isShort, isLong}
 use Rattle.standard.specs.declared.SampleRate.{SampleRate}
@@ -27,6 +28,9 @@ use Rattle.standard.specs.declared.Pair.{Pair}
 use Rattle.standard.specs.declared.Pair.the-variants.{Two, NoPair}
 use Rattle.standard.specs.declared.Quad.{Quad}
 use Rattle.standard.specs.declared.Quad.the-variants.{Four, Dropped, NoQuad}
+
+abbrev pub Reader : Type 0
+Reader = ℕ → List Bool → Codeword
 
 -- ---- one number
 -- where the value is 15, the escape's bits are added (linbits; of a table without escapes there are none)
@@ -80,8 +84,8 @@ pairWord w b Cut = NoPair PairOverrun
 pairWord w b Alien = NoPair NoCodeword
 pairWord w b (Coded v n) = pairAfter n (twoOf w (v / 16) (v % 16) (drop n b))
 
-unfoldable pub pairOf : ℕ → List Bool → Pair
-pairOf t b = pairWord (escapeWidth t) b (decode (published t) b)
+unfoldable pub pairOf : Reader → ℕ → List Bool → Pair
+pairOf word t b = pairWord (escapeWidth t) b (word t b)
 
 -- ---- a quad of a table: the codeword, then a sign for each 1
 unfoldable pub quadLast : ℤ → ℤ → ℕ → Pair → Quad
@@ -97,8 +101,8 @@ quadWord b Cut = Dropped
 quadWord b Alien = NoQuad
 quadWord b (Coded c n) = quadFirst c n (drop n b) (twoOf 0 (c / 8 % 2) (c / 4 % 2) (drop n b))
 
-unfoldable pub quadOf : ℕ → List Bool → Quad
-quadOf t b = quadWord b (decode (published t) b)
+unfoldable pub quadOf : Reader → ℕ → List Bool → Quad
+quadOf word t b = quadWord b (word t b)
 
 -- table A or B (count1table_select)
 abbrev pub quadTable : Bool → ℕ
@@ -131,9 +135,9 @@ thenPairs (NoPair r) rest = halted r
 thenPairs (Two x y u) rest = prepend (x ∷ y ∷ []) (rest u)
 
 -- n pairs from the k-th on, `table` giving the table at a position
-unfoldable pub pairs : (ℕ → ℕ) → ℕ → ℕ → List Bool → Numbers
-pairs table k zero b = got [] b
-pairs table k (suc n) b = thenPairs (pairOf (table (2 * k)) b) (λ (u : ℕ). pairs table (suc k) n (drop u b))
+unfoldable pub pairs : Reader → (ℕ → ℕ) → ℕ → ℕ → List Bool → Numbers
+pairs word table k zero b = got [] b
+pairs word table k (suc n) b = thenPairs (pairOf word (table (2 * k)) b) (λ (u : ℕ). pairs word table (suc k) n (drop u b))
 
 -- a quad that does not end within the bits is dropped, and nothing is read after it
 unfoldable pub thenQuads : Quad → (ℕ → Numbers) → Numbers
@@ -142,24 +146,24 @@ thenQuads Dropped rest = got [] []
 thenQuads (Four v w x y u) rest = prepend (v ∷ w ∷ x ∷ y ∷ []) (rest u)
 
 -- at most n quads
-unfoldable pub quads : ℕ → ℕ → List Bool → Numbers
-quads t zero b = got [] b
-quads t (suc n) b = thenQuads (quadOf t b) (λ (u : ℕ). quads t n (drop u b))
+unfoldable pub quads : Reader → ℕ → ℕ → List Bool → Numbers
+quads word t zero b = got [] b
+quads word t (suc n) b = thenQuads (quadOf word t b) (λ (u : ℕ). quads word t n (drop u b))
 
 -- quads as long as four numbers fit among the 576
-unfoldable pub thenRest : ℕ → ℕ → Numbers → Numbers
-thenRest t n (halted r) = halted r
-thenRest t n (got vs b) = prepend vs (quads t ((576 - 2 * n) / 4) b)
+unfoldable pub thenRest : Reader → ℕ → ℕ → Numbers → Numbers
+thenRest word t n (halted r) = halted r
+thenRest word t n (got vs b) = prepend vs (quads word t ((576 - 2 * n) / 4) b)
 
-unfoldable pub numbersBy : SlotRecord → Regions → List Bool → Numbers
-numbersBy r NoRegions b = halted RegionOverrun
-numbersBy r (Split first second) b =
-    thenRest (quadTable (r .count1)) (r .pairs) (pairs (tableAt first second (r .tables)) 0 (r .pairs) b)
+unfoldable pub numbersBy : Reader → SlotRecord → Regions → List Bool → Numbers
+numbersBy word r NoRegions b = halted RegionOverrun
+numbersBy word r (Split first second) b =
+    thenRest word (quadTable (r .count1)) (r .pairs) (pairs word (tableAt first second (r .tables)) 0 (r .pairs) b)
 
 -- no bits: no numbers, whatever big_values says, as in the Rust
-unfoldable pub numbersOf : SampleRate → SlotRecord → List Bool → Numbers
-numbersOf rate r [] = got [] []
-numbersOf rate r (a ∷ b) = numbersBy r (regionsOf rate r) (a ∷ b)
+unfoldable pub numbersOf : Reader → SampleRate → SlotRecord → List Bool → Numbers
+numbersOf word rate r [] = got [] []
+numbersOf word rate r (a ∷ b) = numbersBy word r (regionsOf rate r) (a ∷ b)
 
 -- 576 numbers: those that were read, then zeros
 unfoldable pub padded : List ℤ → List ℤ

@@ -10,6 +10,7 @@ use lib.Seq.{paste}
 use Rattle.standard.specs.Told.{Told, told, pick}
 use Rattle.standard.specs.Refusals.{numberOf, refuse, SlotTold, lacking, refusedBy, counted}
 use Rattle.standard.specs.Bits.{bits}
+use Rattle.standard.specs.Codes.{wordOf}
 use Rattle.standard.specs.Header.{isMpeg1, isIntensity, isHeader, granules, channelCount}
 use Rattle.standard.specs.Record.{isShort}
 use Rattle.standard.specs.SideInfo.{isSide}
@@ -56,7 +57,7 @@ unfoldable pub slotBy : List Source → Setting → SlotRecord → Outcome → L
 slotBy plan g r mate b =
     pick (ltb (r .length) (planBits plan)) (stopped FactorOverrun)
     (pick (anyOf (g .shares) && isStopped mate) (stopped LostShare)
-    (withFactors (isShort (r .block)) (factorsFrom plan (longOf mate) b) (numbersOf (g .rate) r (drop (planBits plan) b))))
+    (withFactors (isShort (r .block)) (factorsFrom plan (longOf mate) b) (numbersOf wordOf (g .rate) r (drop (planBits plan) b))))
 
 -- from exactly its own bits
 unfoldable pub slotOf : Setting → SlotRecord → Outcome → List Bool → Outcome
