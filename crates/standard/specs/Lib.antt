@@ -30,3 +30,4 @@ pub mod HeaderLaws
 pub mod HeaderBytes
 pub mod RecordBits
 pub mod SideBytes
+pub mod SlotsLaws
