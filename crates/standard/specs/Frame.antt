@@ -10,7 +10,7 @@ use Rattle.standard.specs.Refusals.{numberOf}
 use Rattle.standard.specs.Header.{headerOf, headerSize, sideSize, mainSize, frameLength, noHeader}
 use Rattle.standard.specs.SideInfo.{sideOf, noSide}
 use Rattle.standard.specs.Slots.{Outcome, slotsOf}
-use Rattle.standard.specs.Reservoir.{Kept, untouched, keeping, reaching, adding}
+use Rattle.standard.specs.Reservoir.{Turn, short, reached, turnOf, Kept, untouched, keeping, unfit}
 use Rattle.standard.specs.declared.FrameHeader.{FrameHeader}
 use Rattle.standard.specs.declared.SideInfo.{SideInfo}
 use Rattle.standard.specs.declared.Refusal.the-variants.{UnfitMemory, AbsentBytes, ShortReservoir}
@@ -37,16 +37,16 @@ unfoldable pub fullStep : FrameHeader → SideInfo → List ℕ → Step
 fullStep h i bytes =
     record { verdict = told tt; header = h; info = i; length = frameLength h; slots = slotsOf h i bytes; kept = keeping bytes }
 
--- with the frame's main data, the reservoir's bytes being `old`
-unfoldable pub withMain : FrameHeader → SideInfo → List ℕ → List ℕ → Step
-withMain h i old main =
-    pick (ltb (length old) (i .begin)) (shortStep h i (adding old main)) (fullStep h i (reaching (i .begin) old main))
+-- by the frame's turn with the reservoir
+unfoldable pub withTurn : FrameHeader → SideInfo → Turn → Step
+withTurn h i (short bytes) = shortStep h i bytes
+withTurn h i (reached bytes) = fullStep h i bytes
 
 unfoldable pub withSide : FrameHeader → List ℕ → List ℕ → Told SideInfo → Step
 withSide h s old (refused k) = noStep k
 withSide h s old (told i) =
     pick (ltb (length s) (frameLength h)) (noStep (numberOf AbsentBytes))
-    (withMain h i old (take (mainSize h) (drop (headerSize h + sideSize h) s)))
+    (withTurn h i (turnOf (i .begin) old (take (mainSize h) (drop (headerSize h + sideSize h) s))))
 
 unfoldable pub withHeader : List ℕ → List ℕ → Told FrameHeader → Step
 withHeader s old (refused k) = noStep k
@@ -59,5 +59,5 @@ frameOf s old = withHeader s old (headerOf s)
 -- the call: `lent` bytes with a stated length of them, and d numbers
 unfoldable pub frameCall : List ℕ → List ℕ → ℕ → ℕ → Step
 frameCall s lent stated d =
-    pick (ltb (length lent) 4096 || ltb 4096 stated || ltb d 2304) (noStep (numberOf UnfitMemory))
+    pick (unfit lent stated || ltb d 2304) (noStep (numberOf UnfitMemory))
     (frameOf s (take stated lent))

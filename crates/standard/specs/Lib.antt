@@ -31,3 +31,5 @@ pub mod HeaderBytes
 pub mod RecordBits
 pub mod SideBytes
 pub mod SlotsLaws
+pub mod CopyLaws
+pub mod ReservoirLaws

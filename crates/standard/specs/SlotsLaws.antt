@@ -6,19 +6,19 @@ use mathlib.Core.Bool.{Bool, true, false, not, _&&_, _||_}
 use mathlib.Core.Logic.{_↔_}
 use mathlib.Core.List.{List, [], _∷_, _++_, append-assoc}
 use Prim.Native.Nat.{ℕ, zero, suc, _+_, _-_, _*_, _≤_, _<_}
-use native.Mathlib.Nat.{zero-add, suc-add}
 use native.Mathlib.Decide.{decLe}
 use native.Mathlib.Omega.{arith}
 use borrow.Author.Tests.{le-leb, lt-leb}
 use lib.Dec.{eqb, leb, ltb}
 use lib.IntN.{ℤ, pos}
 use lib.ListN.{length, getD, take, drop, replicate, length-append, length-replicate}
-use lib.Seq.{paste, length-paste, drop-paste, take-take, drop-drop, take-at, drop-at, length-take-le, take-nil}
+use lib.Seq.{paste, length-paste, drop-paste, take-take, drop-drop, take-at, drop-at, length-take-le}
 use Rattle.standard.specs.Told.{pick}
 use Rattle.standard.specs.ToldLaws.{picked, passed, never}
 use Rattle.standard.specs.Refusals.{numberOf}
 use Rattle.standard.specs.Bits.{bits}
 use Rattle.standard.specs.BitsLaws.{bits-append}
+use Rattle.standard.specs.CopyLaws.{take-drop}
 use Rattle.standard.specs.Codes.{wordOf}
 use Rattle.standard.specs.Header.{granules, channelCount}
 use Rattle.standard.specs.Record.{isShort}
@@ -279,11 +279,6 @@ before-slots (o ∷ os) at d h =
     ∙ ap (take at) (before-slots os (at + 576) (numbersAfter o at d) (omega arith))
     ∙ take-take at (at + 576) (numbersAfter o at d) k
     ∙ before-after o at d g
-
-take-drop : (n m : ℕ) (l : List ℤ) → take m (drop n l) ≡ drop n (take (n + m) l)
-take-drop zero m l = rw zero-add
-take-drop (suc n) m [] = rw (take-nil, take-nil)
-take-drop (suc n) m (x ∷ l) = rw suc-add (take-drop n m l)
 
 -- the 576 numbers from a place on are told by what lies before their end, and by what lies from an earlier place on
 part-take : (at : ℕ) (d : List ℤ) → partOf at d ≡ drop at (take (at + 576) d)

@@ -35,6 +35,13 @@ both-of false b e = never e
 pub both : {a b : Bool} → a ≡ true → b ≡ true → a && b ≡ true
 both {a} {b} p q = ap (λ (x : Bool). x && b) p ∙ q
 
+pub either-left : {a : Bool} (b : Bool) → a ≡ true → a || b ≡ true
+either-left b e = ap (λ (x : Bool). x || b) e
+
+pub either-right : (a : Bool) {b : Bool} → b ≡ true → a || b ≡ true
+either-right true e = refl
+either-right false e = e
+
 pub neither-of : (a b : Bool) → a || b ≡ false → (a ≡ false) × (b ≡ false)
 neither-of true b e = never (sym e)
 neither-of false b e = (refl, e)

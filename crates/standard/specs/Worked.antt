@@ -18,8 +18,8 @@ use Rattle.standard.specs.SideInfo.{thenRecords, recordsOf, thenSide, si
 use Rattle.standard.specs.Factors.{longPlan, shortPlan, lowPlan, planOf, planBits, factorsFrom, longFactors, shortFactors}
 use Rattle.standard.specs.Numbers.{escaped, magnitudeOf, signOf, signed, further, thenSign, numberIn, twoLast, twoFirst, twoOf, pairAfter, pairWord, pairOf, quadLast, quadFirst, quadWord, quadOf, regionsOf, tableAt, prepend, thenPairs, pairs, thenQuads, quads, thenRest, numbersBy, numbersOf, padded}
 use Rattle.standard.specs.Slots.{Outcome, stopped, holds, isStopped, longOf as longFactorsOf, anyOf, withFactors, slotBy, slotOf, sharesOf, settingOf, mateOf, slotIn, thenSlots, slotsFrom, slotsOf}
-use Rattle.standard.specs.Reservoir.{Kept, untouched, keeping, reaching, adding}
-use Rattle.standard.specs.Frame.{Step, noStep, shortStep, fullStep, withMain, withSide, withHeader, frameOf}
+use Rattle.standard.specs.Reservoir.{keeping, reaching, adding, turnOf}
+use Rattle.standard.specs.Frame.{Step, noStep, shortStep, fullStep, withTurn, withSide, withHeader, frameOf}
 use Rattle.standard.specs.Reorder.{bandOrder, orderFrom, orderOf, gathered}
 use Rattle.standard.specs.declared.FrameHeader.{FrameHeader}
 use Rattle.standard.specs.declared.SideInfo.{SideInfo}
@@ -47,7 +47,7 @@ numbersF = negsuc 0 ∷ pos 0 ∷ pos 0 ∷ pos 0 ∷ pos 1 ∷ pos 0 ∷ []
 
 -- ---- a frame's step from its bytes and the reservoir's, and its parts
 unfoldable pub step : List ℕ → List ℕ → Step
-unfolding pick bitAt bits window valueFrom value field flag fieldAt member later place lowBits pair quad starts first begun decode silent table1 tableB codes published wordOf escapes escapeWidth longRows shortRows longStart shortStart slenRows slen1 slen2 rangeIn lowRange ordinaryLengths intensityLengths lowLengths lowRows lowCounts bitrates rates versionOf emphasisOf channelsOf fields lastBytes secondByte headerOf sameBitrate sameRate isHeader headerSize dataSize frameLength sideSize mainSize granules channelCount noHeader blockOf preflagOf longOf switchedOf recordIn recordOf absent thenRecords recordsOf thenSide sideIn sideFrom sideOf noSide longPlan shortPlan lowPlan planOf planBits factorsFrom longFactors shortFactors escaped magnitudeOf signOf signed further thenSign numberIn twoLast twoFirst twoOf pairAfter pairWord pairOf quadLast quadFirst quadWord quadOf regionsOf tableAt prepend thenPairs pairs thenQuads quads thenRest numbersBy numbersOf padded isStopped longFactorsOf anyOf withFactors slotBy slotOf sharesOf settingOf mateOf slotIn thenSlots slotsFrom slotsOf reaching adding noStep shortStep fullStep withMain withSide withHeader frameOf
+unfolding pick bitAt bits window valueFrom value field flag fieldAt member later place lowBits pair quad starts first begun decode silent table1 tableB codes published wordOf escapes escapeWidth longRows shortRows longStart shortStart slenRows slen1 slen2 rangeIn lowRange ordinaryLengths intensityLengths lowLengths lowRows lowCounts bitrates rates versionOf emphasisOf channelsOf fields lastBytes secondByte headerOf sameBitrate sameRate isHeader headerSize dataSize frameLength sideSize mainSize granules channelCount noHeader blockOf preflagOf longOf switchedOf recordIn recordOf absent thenRecords recordsOf thenSide sideIn sideFrom sideOf noSide longPlan shortPlan lowPlan planOf planBits factorsFrom longFactors shortFactors escaped magnitudeOf signOf signed further thenSign numberIn twoLast twoFirst twoOf pairAfter pairWord pairOf quadLast quadFirst quadWord quadOf regionsOf tableAt prepend thenPairs pairs thenQuads quads thenRest numbersBy numbersOf padded isStopped longFactorsOf anyOf withFactors slotBy slotOf sharesOf settingOf mateOf slotIn thenSlots slotsFrom slotsOf reaching adding turnOf noStep shortStep fullStep withTurn withSide withHeader frameOf
 step s old = frameOf s old
 
 unfoldable pub verdict : List ℕ → Told (Unit {0})

@@ -163,6 +163,12 @@ pub struct SlotsAnswer {
     pub slots: [SlotAnswer; 4],
 }
 
+// What became of the reservoir, whose bytes stand in lent memory.
+pub struct ReservoirAnswer {
+    pub verdict: Verdict,
+    pub reservoir: Reservoir,
+}
+
 // A frame's answer. Of a refused frame, header, side information and slots are blank and the length is 0, except where only
 // the reservoir was too short: there all but the slots was read, and is told.
 pub struct FrameAnswer {

@@ -1,0 +1,90 @@
+// The bit reservoir: what a frame keeps of it and adds to it, in lent bytes.
+use standard::Refusal;
+use standard::Reservoir;
+use standard::ReservoirAnswer;
+use standard::Verdict;
+ghost use mathlib.Core.Path.{_≡_};
+ghost use Prim.Native.Nat.{_+_, _≤_};
+ghost use lib.ListN.{length, drop};
+ghost use lib.Seq.{paste};
+ghost use Rattle.standard.specs.Reservoir.{turnIn, Turned, «emptied»};
+
+// Bytes a reader lends for the reservoir, at least.
+const LENT: usize = 4096;
+
+// For a gap on the card: no byte before it is meant any more.
+pub fn emptied() -> Reservoir
+    ensures { λ r. ⌜ r ≡ «emptied» ⌝ }
+{
+    Reservoir { length: 0 }
+}
+
+// The n bytes from a place on are moved to the front. The place is not before the front, so going forward none is lost.
+fn slide(bytes: &mut [u8], from: usize, n: usize)
+    requires { ⌜ from + n ≤ length (now bytes) ⌝ }
+    ensures { λ _. ⌜ now (bytes .exit) ≡ paste (now (bytes .entry)) 0 (drop from (now (bytes .entry))) n ⌝ }
+{
+    let mut i = 0usize;
+    while i < n {
+        bytes[i] = bytes[from + i];
+        i += 1;
+    }
+}
+
+fn store(bytes: &mut [u8], at: usize, main: &[u8])
+    requires { ⌜ at + length (now main) ≤ length (now bytes) ⌝ }
+    ensures { λ _. ⌜ now (bytes .exit) ≡ paste (now (bytes .entry)) at (now (main .entry)) (length (now (main .entry))) ⌝ }
+{
+    let mut i = 0usize;
+    while i < main.len() {
+        bytes[at + i] = main[i];
+        i += 1;
+    }
+}
+
+fn refused(reason: Refusal, reservoir: Reservoir) -> ReservoirAnswer
+    ensures { λ r. ⌜ (r .verdict ≡ Verdict.Refused reason) × (r .reservoir ≡ reservoir) ⌝ }
+{
+    ReservoirAnswer {
+        verdict: Verdict::Refused(reason),
+        reservoir,
+    }
+}
+
+// A frame's turn: the bytes it reaches back to are kept and its main data is put after them. Where it reaches further back than
+// there are bytes, its main data is put after all of them, for the next frames to reach.
+pub fn turn(bytes: &mut [u8], reservoir: Reservoir, begin: u16, main: &[u8]) -> ReservoirAnswer
+    ensures { λ r. ⌜ Turned (now (bytes .entry)) reservoir (turnIn (now (bytes .entry)) (reservoir .length) begin (now (main .entry))) r (now (bytes .exit)) ⌝ }
+{
+    let stated = reservoir.length;
+    let back = begin as usize;
+    if bytes.len() < LENT {
+        return refused(Refusal::UnfitMemory, reservoir);
+    }
+    if LENT < stated {
+        return refused(Refusal::UnfitMemory, reservoir);
+    }
+    if LENT < main.len() {
+        return refused(Refusal::UnfitMemory, reservoir);
+    }
+    if LENT < back + main.len() {
+        return refused(Refusal::UnfitMemory, reservoir);
+    }
+    if stated < back {
+        store(&mut *bytes, stated, main);
+        return refused(
+            Refusal::ShortReservoir,
+            Reservoir {
+                length: stated + main.len(),
+            },
+        );
+    }
+    slide(&mut *bytes, stated - back, back);
+    store(&mut *bytes, back, main);
+    ReservoirAnswer {
+        verdict: Verdict::Accepted,
+        reservoir: Reservoir {
+            length: back + main.len(),
+        },
+    }
+}
