@@ -33,3 +33,4 @@ pub mod SideBytes
 pub mod SlotsLaws
 pub mod CopyLaws
 pub mod ReservoirLaws
+pub mod ReorderLaws

@@ -4,7 +4,7 @@ use mathlib.Core.List.{List, [], _∷_, _++_}
 use Prim.Native.Nat.{ℕ, zero, suc, _+_, _-_, _*_}
 use lib.Dec.{ltb}
 use lib.IntN.{ℤ, pos}
-use lib.ListN.{length, getD, drop}
+use lib.ListN.{length, getD, take, drop}
 use Rattle.standard.specs.Told.{Told, told, pick}
 use Rattle.standard.specs.Refusals.{refuse}
 use Rattle.standard.specs.Bands.{rowOf, shortRows}
@@ -35,7 +35,7 @@ gathered (i ∷ is) d = getD d i (pos 0) ∷ gathered is d
 
 -- the first 576 numbers of a short slot in their new order; others stay
 unfoldable pub reordered : SampleRate → SlotRecord → List ℤ → List ℤ
-reordered rate r d = pick (isShort (r .block)) (gathered (orderOf rate) d ++ drop 576 d) d
+reordered rate r d = pick (isShort (r .block)) (gathered (orderOf rate) (take 576 d) ++ drop 576 d) d
 
 unfoldable pub reorderOf : FrameHeader → SlotRecord → List ℤ → Told (List ℤ)
 reorderOf h r d =

@@ -1,0 +1,53 @@
+-- `reorder::store_three` meets its contract. Assumes nothing.
+use native.Mathlib.Omega.{arith}
+use lib.ListN.{length-set}
+use borrow.Author.Needs.{needs}
+use Rattle.reorder.proofs.store_three.Statement.{statement}
+use Rattle.reorder.proofs.store_three.Tie as tie
+use Rattle.reorder.proofs.store_three.Reads as reads
+use Rattle.reorder.proofs.store_three.Lts as lts
+
+mul-x : tie.Need-mul-x
+mul-x c = search needs
+
+slice-set-from-x : tie.Need-slice-set-from-x
+slice-set-from-x c = search needs
+
+add-y : tie.Need-add-y
+add-y c = search needs
+
+mul-y : tie.Need-mul-y
+mul-y c = search needs
+
+slice-set-from-y : tie.Need-slice-set-from-y
+slice-set-from-y c = simp length-set (omega arith)
+
+add-z : tie.Need-add-z
+add-z c = search needs
+
+mul-z : tie.Need-mul-z
+mul-z c = search needs
+
+slice-set-from-z : tie.Need-slice-set-from-z
+slice-set-from-z c = simp length-set (omega arith)
+
+same-length : tie.Need-same-length
+same-length c = search needs
+
+returns : tie.Need-returns
+returns c = search needs
+
+pub store-three-spec : {M : Type 1} → statement M
+store-three-spec =
+    tie.close
+    (tie.spec
+    mul-x
+    slice-set-from-x
+    add-y
+    mul-y
+    slice-set-from-y
+    add-z
+    mul-z
+    slice-set-from-z
+    same-length
+    returns)

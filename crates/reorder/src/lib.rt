@@ -1,0 +1,69 @@
+// The short-block reorder: window by window before it, frequency by frequency after it.
+use standard::SampleRate;
+use tables::bands::short_start;
+ghost use mathlib.Core.Path.{_≡_};
+ghost use mathlib.Core.List.{_++_};
+ghost use Prim.Native.Nat.{_+_, _*_, _≤_};
+ghost use lib.ListN.{length, take, drop, set};
+ghost use lib.Seq.{paste};
+ghost use Rattle.standard.specs.Reorder.{orderOf, gathered};
+ghost use Rattle.standard.specs.ReorderLaws.{bandNumbers};
+
+// Three numbers from a place on.
+fn store_three(numbers: &mut [i32], at: usize, x: i32, y: i32, z: i32)
+    requires { ⌜ at + 3 ≤ length (now numbers) ⌝ }
+    ensures { λ _. ⌜ now (numbers .exit) ≡ set (set (set (now (numbers .entry)) at x) (at + 1) y) (at + 2) z ⌝ }
+{
+    numbers[at] = x;
+    numbers[at + 1] = y;
+    numbers[at + 2] = z;
+}
+
+// A band of width w from a place on, out of the numbers before the reorder.
+fn reorder_band(old: &[i32], numbers: &mut [i32], from: usize, w: usize)
+    requires { ⌜ (from + 3 * w ≤ 576) × (576 ≤ length (now numbers)) × (576 ≤ length (now old)) ⌝ }
+    ensures { λ _. ⌜ now (numbers .exit) ≡ paste (now (numbers .entry)) from (bandNumbers from w (now (old .entry))) (3 * w) ⌝ }
+{
+    let mut j = 0usize;
+    let mut at = from;
+    while j < w {
+        store_three(
+            &mut *numbers,
+            at,
+            old[from + j],
+            old[from + w + j],
+            old[from + 2 * w + j],
+        );
+        at += 3;
+        j += 1;
+    }
+}
+
+// The numbers before the reorder.
+fn first_576(numbers: &[i32]) -> [i32; 576]
+    requires { ⌜ 576 ≤ length (now numbers) ⌝ }
+    ensures { λ r. ⌜ r ≡ take 576 (now (numbers .entry)) ⌝ }
+{
+    let mut old = [0i32; 576];
+    let mut i = 0usize;
+    while i < 576 {
+        old[i] = numbers[i];
+        i += 1;
+    }
+    old
+}
+
+// The first 576 numbers of a short slot, band by band.
+fn reorder_short(rate: SampleRate, numbers: &mut [i32])
+    requires { ⌜ 576 ≤ length (now numbers) ⌝ }
+    ensures { λ _. ⌜ now (numbers .exit) ≡ gathered (orderOf rate) (take 576 (now (numbers .entry))) ++ drop 576 (now (numbers .entry)) ⌝ }
+{
+    let old = first_576(numbers);
+    let mut k = 0usize;
+    while k < 13 {
+        let b = short_start(rate, k) as usize;
+        let c = short_start(rate, k + 1) as usize;
+        reorder_band(&old, &mut *numbers, 3 * b, c - b);
+        k += 1;
+    }
+}

@@ -1,0 +1,226 @@
+-- The new order, band by band: which number comes to each place of a band, and what is left of the order after one.
+use mathlib.Core.Path.{_≡_, refl, sym, ap, _∙_}
+use mathlib.Core.Bool.{Bool, true, false, _&&_}
+use mathlib.Core.List.{List, [], _∷_, _++_, append-nil}
+use Prim.Native.Nat.{ℕ, zero, suc, _+_, _-_, _*_, _≤_, _<_}
+use native.Mathlib.Numerals.{add-one}
+use native.Mathlib.Omega.{arith}
+use borrow.Author.Tests.{leb-true, eqb-true}
+use lib.Dec.{leb, eqb}
+use lib.IntN.{ℤ, pos}
+use lib.ListN.{length, getD, take, drop, take-append-drop, drop-of-length-le}
+use lib.Seq.{drop-cons, drop-drop, drop-at, take-at}
+use Rattle.standard.specs.Bands.{rowOf, shortRows, shortStart}
+use Rattle.standard.specs.BandsLaws.{row-lt, short-within, short-past}
+use Rattle.standard.specs.RowsLaws.{every, every-in, rows-long}
+use Rattle.standard.specs.ToldLaws.{never, both-of}
+use Rattle.standard.specs.Reorder.{bandOrder, orderFrom, orderOf, gathered}
+use Rattle.standard.specs.declared.SampleRate.{SampleRate}
+
+gathered-append : (is js : List ℕ) (d : List ℤ) → gathered (is ++ js) d ≡ gathered is d ++ gathered js d
+unfolding gathered
+gathered-append [] js d = refl
+gathered-append (i ∷ is) js d = ap (λ (l : List ℤ). getD d i (pos 0) ∷ l) (gathered-append is js d)
+
+length-gathered : (is : List ℕ) (d : List ℤ) → length (gathered is d) ≡ length is
+unfolding gathered
+length-gathered [] d = refl
+length-gathered (i ∷ is) d = ap suc (length-gathered is d)
+
+length-band : (from w j n : ℕ) → length (bandOrder from w j n) ≡ 3 * n
+unfolding bandOrder
+length-band from w j zero = refl
+length-band from w j (suc n) = let p : suc (suc (suc (3 * n))) ≡ 3 * suc n = omega arith in ap (λ (m : ℕ). suc (suc (suc m))) (length-band from w (suc j) n) ∙ p
+
+-- the numbers of a band in their new order
+unfoldable pub bandNumbers : ℕ → ℕ → List ℤ → List ℤ
+bandNumbers from w d = gathered (bandOrder from w 0 w) d
+
+pub length-band-numbers : (from w : ℕ) (d : List ℤ) → length (bandNumbers from w d) ≡ 3 * w
+unfolding bandNumbers
+length-band-numbers from w d = length-gathered (bandOrder from w 0 w) d ∙ length-band from w 0 w
+
+-- at 3 i + window stands the number that stood at window w + i
+band-from : (from w : ℕ) (d : List ℤ) (n j i : ℕ) → i < n
+    → (getD (gathered (bandOrder from w j n) d) (3 * i) (pos 0) ≡ getD d (from + (j + i)) (pos 0))
+    × (getD (gathered (bandOrder from w j n) d) (3 * i + 1) (pos 0) ≡ getD d (from + w + (j + i)) (pos 0))
+    × (getD (gathered (bandOrder from w j n) d) (3 * i + 2) (pos 0) ≡ getD d (from + 2 * w + (j + i)) (pos 0))
+unfolding bandOrder gathered
+band-from from w d zero j i h = absurd (omega arith)
+band-from from w d (suc n) j zero h =
+    let e : j ≡ j + 0 = omega arith in
+    (ap (λ (k : ℕ). getD d (from + k) (pos 0)) e, ap (λ (k : ℕ). getD d (from + w + k) (pos 0)) e, ap (λ (k : ℕ). getD d (from + 2 * w + k) (pos 0)) e)
+band-from from w d (suc n) j (suc i) h =
+    let r = band-from from w d n (suc j) i (omega arith) in
+    let l = gathered (bandOrder from w j (suc n)) d in
+    let e : suc j + i ≡ j + suc i = omega arith in
+    let p : 3 * suc i ≡ suc (suc (suc (3 * i))) = omega arith in
+    let q : 3 * suc i + 1 ≡ suc (suc (suc (3 * i + 1))) = omega arith in
+    let s : 3 * suc i + 2 ≡ suc (suc (suc (3 * i + 2))) = omega arith in (
+      ap (λ (k : ℕ). getD l k (pos 0)) p ∙ r .0 ∙ ap (λ (k : ℕ). getD d (from + k) (pos 0)) e,
+      ap (λ (k : ℕ). getD l k (pos 0)) q ∙ r .1 ∙ ap (λ (k : ℕ). getD d (from + w + k) (pos 0)) e,
+      ap (λ (k : ℕ). getD l k (pos 0)) s ∙ r .2 ∙ ap (λ (k : ℕ). getD d (from + 2 * w + k) (pos 0)) e,
+    )
+
+module _ (from w : ℕ) (d : List ℤ) (i : ℕ) (h : i < w) where
+  pub band-first : getD (bandNumbers from w d) (3 * i) (pos 0) ≡ getD d (from + i) (pos 0)
+  unfolding bandNumbers
+  band-first = let e : 0 + i ≡ i = omega arith in band-from from w d w 0 i h .0 ∙ ap (λ (k : ℕ). getD d (from + k) (pos 0)) e
+
+  pub band-second : getD (bandNumbers from w d) (3 * i + 1) (pos 0) ≡ getD d (from + w + i) (pos 0)
+  unfolding bandNumbers
+  band-second = let e : 0 + i ≡ i = omega arith in band-from from w d w 0 i h .1 ∙ ap (λ (k : ℕ). getD d (from + w + k) (pos 0)) e
+
+  pub band-third : getD (bandNumbers from w d) (3 * i + 2) (pos 0) ≡ getD d (from + 2 * w + i) (pos 0)
+  unfolding bandNumbers
+  band-third = let e : 0 + i ≡ i = omega arith in band-from from w d w 0 i h .2 ∙ ap (λ (k : ℕ). getD d (from + 2 * w + k) (pos 0)) e
+
+-- ---- the bands of a rate rise from 0 to 192
+rising : ℕ → List ℕ → Bool
+rising b [] = eqb b 192
+rising b (c ∷ cs) = leb b c && rising c cs
+
+risingRow : List ℕ → Bool
+unfolding rising
+risingRow [] = false
+risingRow (b ∷ cs) = eqb b 0 && rising b cs
+
+all-rising : every risingRow shortRows ≡ true
+unfolding every rising risingRow shortRows
+all-rising = refl
+
+row-rising : (r : SampleRate) → risingRow (getD shortRows (rowOf r) []) ≡ true
+unfolding shortRows
+row-rising r = every-in risingRow [] shortRows all-rising (rowOf r) (row-lt r)
+
+rises-from : (cs : List ℕ) (b : ℕ) → rising b cs ≡ true → (k : ℕ) → getD (b ∷ cs) k 192 ≤ getD cs k 192
+unfolding rising
+rises-from [] b e zero = omega (arith, eqb-true b 192 e)
+rises-from [] b e (suc k) = omega arith
+rises-from (c ∷ cs) b e zero = leb-true b c (both-of (leb b c) (rising c cs) e .0)
+rises-from (c ∷ cs) b e (suc k) = rises-from cs c (both-of (leb b c) (rising c cs) e .1) k
+
+tops-from : (cs : List ℕ) (b : ℕ) → rising b cs ≡ true → (k : ℕ) → getD (b ∷ cs) k 192 ≤ 192
+unfolding rising
+tops-from [] b e zero = omega (arith, eqb-true b 192 e)
+tops-from [] b e (suc k) = omega arith
+tops-from (c ∷ cs) b e zero =
+    let p = both-of (leb b c) (rising c cs) e in omega (arith, leb-true b c (p .0), tops-from cs c (p .1) 0)
+tops-from (c ∷ cs) b e (suc k) = tops-from cs c (both-of (leb b c) (rising c cs) e .1) k
+
+-- of a whole row
+starts-at-0 : (row : List ℕ) → risingRow row ≡ true → getD row 0 192 ≡ 0
+unfolding risingRow
+starts-at-0 [] e = never e
+starts-at-0 (b ∷ cs) e = eqb-true b 0 (both-of (eqb b 0) (rising b cs) e .0)
+
+rises : (row : List ℕ) → risingRow row ≡ true → (k : ℕ) → getD row k 192 ≤ getD row (suc k) 192
+unfolding risingRow
+rises [] e k = never e
+rises (b ∷ cs) e k = rises-from cs b (both-of (eqb b 0) (rising b cs) e .1) k
+
+tops : (row : List ℕ) → risingRow row ≡ true → (k : ℕ) → getD row k 192 ≤ 192
+unfolding risingRow
+tops [] e k = never e
+tops (b ∷ cs) e k = tops-from cs b (both-of (eqb b 0) (rising b cs) e .1) k
+
+last-from : (cs : List ℕ) (b : ℕ) → rising b cs ≡ true → getD (b ∷ cs) (length cs) 192 ≡ 192
+unfolding rising
+last-from [] b e = eqb-true b 192 e
+last-from (c ∷ cs) b e = last-from cs c (both-of (leb b c) (rising c cs) e .1)
+
+lasts : (row : List ℕ) → risingRow row ≡ true → getD row (length row - 1) 192 ≡ 192
+unfolding risingRow
+lasts [] e = never e
+lasts (b ∷ cs) e =
+    let p : suc (length cs) - 1 ≡ length cs = omega arith in
+    ap (λ (k : ℕ). getD (b ∷ cs) k 192) p ∙ last-from cs b (both-of (eqb b 0) (rising b cs) e .1)
+
+-- every row's order has 576 places
+orderLong : List ℕ → Bool
+orderLong row = eqb (length (orderFrom 0 (drop 1 row))) 576
+
+all-long : every orderLong shortRows ≡ true
+unfolding every orderLong orderFrom bandOrder shortRows
+all-long = refl
+
+module _ (r : SampleRate) where
+  pub length-order : (d : List ℤ) → length (gathered (orderOf r) d) ≡ 576
+  unfolding orderOf orderLong shortRows
+  length-order d = length-gathered (orderOf r) d ∙ eqb-true _ 576 (every-in orderLong [] shortRows all-long (rowOf r) (row-lt r))
+
+  pub short-first : shortStart r 0 ≡ 0
+  unfolding shortStart
+  short-first = starts-at-0 (getD shortRows (rowOf r) []) (row-rising r)
+
+  pub short-rises : (k : ℕ) → shortStart r k ≤ shortStart r (k + 1)
+  unfolding shortStart
+  short-rises k = rw add-one (rises (getD shortRows (rowOf r) []) (row-rising r) k)
+
+  pub short-tops : (k : ℕ) → shortStart r k ≤ 192
+  unfolding shortStart
+  short-tops k = tops (getD shortRows (rowOf r) []) (row-rising r) k
+
+  row-length : length (getD shortRows (rowOf r) []) ≡ 14
+  unfolding every shortRows
+  row-length = rows-long 14 shortRows refl (rowOf r) (row-lt r)
+
+  pub short-last : shortStart r 13 ≡ 192
+  unfolding shortStart
+  short-last =
+      let p : length (getD shortRows (rowOf r) []) - 1 ≡ 13 = omega (arith, row-length) in
+      ap (λ (k : ℕ). getD (getD shortRows (rowOf r) []) k 192) (sym p) ∙ lasts (getD shortRows (rowOf r) []) (row-rising r)
+
+  -- ---- the whole order, from the k-th band on
+  orderRest : ℕ → List ℤ → List ℤ
+  orderRest k d = gathered (orderFrom (shortStart r k) (drop (k + 1) (getD shortRows (rowOf r) []))) d
+
+  order-all : (d : List ℤ) → gathered (orderOf r) d ≡ orderRest 0 d
+  unfolding orderOf orderRest
+  order-all d = ap (λ (b : ℕ). gathered (orderFrom b (drop 1 (getD shortRows (rowOf r) []))) d) (sym short-first)
+
+  order-band : (k : ℕ) (d : List ℤ) → k < 13
+      → orderRest k d ≡ bandNumbers (3 * shortStart r k) (shortStart r (k + 1) - shortStart r k) d ++ orderRest (k + 1) d
+  unfolding orderRest orderFrom shortStart bandNumbers
+  order-band k d h =
+      let row = getD shortRows (rowOf r) [] in
+      let b = getD row k 192 in
+      let c = getD row (k + 1) 192 in
+      ap (λ (l : List ℕ). gathered (orderFrom b l) d) (drop-cons row (k + 1) 192 (omega (arith, row-length)) ∙ ap (λ (n : ℕ). c ∷ drop n row) (sym (add-one (k + 1))))
+      ∙ gathered-append (bandOrder (3 * b) (c - b) 0 (c - b)) (orderFrom c (drop (k + 1 + 1) row)) d
+
+  order-end : (d : List ℤ) → orderRest 13 d ≡ []
+  unfolding orderRest orderFrom gathered
+  order-end d = ap (λ (l : List ℕ). gathered (orderFrom (shortStart r 13) l) d) (drop-of-length-le (getD shortRows (rowOf r) []) {i = 14} (omega (arith, row-length)))
+
+  -- what is left of the order where the k-th band starts
+  order-at : (k : ℕ) (d : List ℤ) → k ≤ 13 → drop (3 * shortStart r k) (gathered (orderOf r) d) ≡ orderRest k d
+  order-at zero d h = ap (λ (b : ℕ). drop (3 * b) (gathered (orderOf r) d)) short-first ∙ order-all d
+  order-at (suc k) d h =
+      let b = shortStart r k in
+      let c = shortStart r (k + 1) in
+      let e : 3 * b + 3 * (c - b) ≡ 3 * c = omega (arith, short-rises k) in
+      ap (λ (n : ℕ). drop (3 * shortStart r n) (gathered (orderOf r) d)) (sym (add-one k))
+      ∙ ap (λ (n : ℕ). drop n (gathered (orderOf r) d)) (sym e)
+      ∙ sym (drop-drop (3 * (c - b)) (3 * b) (gathered (orderOf r) d))
+      ∙ ap (drop (3 * (c - b))) (order-at k d (omega arith) ∙ order-band k d (omega arith))
+      ∙ drop-at (bandNumbers (3 * b) (c - b) d) (orderRest (k + 1) d) (3 * (c - b)) (length-band-numbers (3 * b) (c - b) d)
+      ∙ ap (λ (n : ℕ). orderRest n d) (add-one k)
+
+  -- the k-th band's numbers are the next of the order
+  pub order-next : (k : ℕ) (d : List ℤ) → k < 13
+      → take (3 * (shortStart r (k + 1) - shortStart r k)) (drop (3 * shortStart r k) (gathered (orderOf r) d))
+      ≡ bandNumbers (3 * shortStart r k) (shortStart r (k + 1) - shortStart r k) d
+  order-next k d h =
+      let b = shortStart r k in
+      let c = shortStart r (k + 1) in
+      ap (take (3 * (c - b))) (order-at k d (omega arith) ∙ order-band k d h)
+      ∙ take-at (bandNumbers (3 * b) (c - b) d) (orderRest (k + 1) d) (3 * (c - b)) (length-band-numbers (3 * b) (c - b) d)
+
+  -- it has 576 places
+  pub order-whole : (d : List ℤ) → take 576 (gathered (orderOf r) d) ≡ gathered (orderOf r) d
+  order-whole d =
+      let l = gathered (orderOf r) d in
+      let e : 3 * shortStart r 13 ≡ 576 = omega (arith, short-last) in
+      let none : drop 576 l ≡ [] = ap (λ (n : ℕ). drop n l) (sym e) ∙ order-at 13 d (omega arith) ∙ order-end d in
+      sym (append-nil (take 576 l)) ∙ ap (λ (x : List ℤ). take 576 l ++ x) (sym none) ∙ take-append-drop 576 l
