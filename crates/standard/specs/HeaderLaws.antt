@@ -131,7 +131,7 @@ any-test Mpeg1 = refl
 any-test Mpeg2 = refl
 any-test Mpeg25 = refl
 
-any-size : (v : MpegVersion) (b : BitRate) (r : SampleRate) → (12 ≤ bytesIn v b r) × (bytesIn v b r ≤ 5760)
+pub any-size : (v : MpegVersion) (b : BitRate) (r : SampleRate) → (12 ≤ bytesIn v b r) × (bytesIn v b r ≤ 5760)
 any-size v b r = between-is 12 5760 v b r (every-rate (between 12 5760 v b) (every-bitrate (betweenAt 12 5760 v rateAll) (any-test v) b) r)
 
 -- a header with CRC, the longer side information and a byte

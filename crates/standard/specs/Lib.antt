@@ -26,6 +26,7 @@ pub mod RefusalsLaws
 pub mod RowsLaws
 pub mod SameLaws
 pub mod Written
+pub mod HeaderRows
 pub mod HeaderLaws
 pub mod HeaderBytes
 pub mod RecordBits

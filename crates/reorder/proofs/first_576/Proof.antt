@@ -43,15 +43,17 @@ loop-less : tie.Need-loop-less Inv-loop μ-loop
 loop-less c = omega arith
 
 loop-again : tie.Need-loop-again Inv-loop μ-loop
-loop-again c = 
+loop-again c =
     let o = c .before .before .loop in
     let numbers = now (c .before .before .before .args .numbers) in
-    let f : SFits w32 (getD numbers (o .i) (pos 0)) = search needs in
-    (omega arith, o .inv .1,
-    copying-turn _ _ _ 0 (o .i) (o .inv .2) (pos 0) (o .i) _ (omega arith) (toZ-ofZ w32 _ f) (omega arith) (omega arith))
+    let f : SFits w32 (getD numbers (o .i) (pos 0)) = search needs in (
+      omega arith,
+      o .inv .1,
+      copying-turn _ _ _ 0 (o .i) (o .inv .2) (pos 0) (o .i) _ (omega arith) (toZ-ofZ w32 _ f) (omega arith) (omega arith),
+    )
 
 returns : tie.Need-returns Inv-loop μ-loop
-returns c = 
+returns c =
     let o = c .before .loop in
     copying-end _ _ _ _ _ (o .inv .2) 576 (omega arith) ∙ paste-whole (now (c .before .before .args .numbers)) (replicate 576 (pos 0)) 576 (o .inv .1)
 
