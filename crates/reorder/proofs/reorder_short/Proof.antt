@@ -1,3 +1,15 @@
+-- `reorder::reorder_short` meets its contract. The loop's invariant: the bands before the k-th stand in their new order. Assumes nothing.
+use mathlib.Core.Path.{_≡_, refl, sym, ap, _∙_}
+use mathlib.Core.List.{List, _++_}
+use Prim.Native.Nat.{ℕ, _+_, _-_, _*_, _≤_}
+use native.Mathlib.Omega.{arith}
+use denote.Ref.{now}
+use lib.IntN.{ℤ}
+use lib.ListN.{length, drop}
+use lib.Seq.{length-take-le}
+use Rattle.standard.specs.Reorder.{orderOf, gathered}
+use Rattle.standard.specs.ReorderLaws.{short-rises, short-tops}
+use Rattle.reorder.proofs.Bands.{Ordered, ordered-begin, ordered-turn, ordered-end}
 use Rattle.reorder.proofs.reorder_short.Statement.{statement}
 use Rattle.reorder.proofs.reorder_short.Tie as tie
 use Rattle.reorder.proofs.reorder_short.Reads as reads
@@ -7,74 +19,66 @@ use Rattle.reorder.proofs.reorder_band.Reads as reorder-band-reads
 use Rattle.tables.proofs.bands.short_start.Reads as short-start-reads
 
 abbrev Inv-loop : tie.InvT-loop
-Inv-loop rate numbers₀ old k₀ numbers k = ?
+Inv-loop rate numbers₀ old k₀ numbers k = Ordered rate old numbers₀ numbers k
 
 abbrev μ-loop : tie.MeasureT-loop
-μ-loop rate numbers₀ old k₀ numbers k = ?
+μ-loop rate numbers₀ old k₀ numbers k = 13 - k
 
--- src/lib.rt:61:15
 first-576-requires : tie.Need-first-576-requires Inv-loop μ-loop
-first-576-requires c κs = ?
+first-576-requires c κs = c .before .pre
 
--- src/lib.rt:63:5
 loop-holds : tie.Need-loop-holds Inv-loop μ-loop
-loop-holds c = ?
+loop-holds c = ordered-begin _ _ _ (c .before .before .pre) (ap length (c .first-576 .ensures) ∙ length-take-le 576 (now (c .before .before .args .numbers)) (c .before .before .pre))
 
--- src/lib.rt:64:17
 short-start-requires : tie.Need-short-start-requires Inv-loop μ-loop
-short-start-requires c κs = ?
+short-start-requires c κs = tt
 
--- src/lib.rt:64:17
 cast-b : tie.Need-cast-b Inv-loop μ-loop
-cast-b c = ?
+cast-b c = omega (arith, c .short-start .ensures, short-tops (c .before .before .before .before .before .args .rate) (c .before .before .loop .k))
 
--- src/lib.rt:65:35
 add-short-start : tie.Need-add-short-start Inv-loop μ-loop
-add-short-start c = ?
+add-short-start c = omega arith
 
--- src/lib.rt:65:17
 short-start-requires-2 : tie.Need-short-start-requires-2 Inv-loop μ-loop
-short-start-requires-2 c κs = ?
+short-start-requires-2 c κs = tt
 
--- src/lib.rt:65:17
 cast-c : tie.Need-cast-c Inv-loop μ-loop
-cast-c c = ?
+cast-c c = omega (arith, c .short-start2 .ensures, short-tops (c .before .before .before .before .before .before .args .rate) (c .before .before .before .loop .k + 1))
 
--- src/lib.rt:66:22
 slice-aggregate-reorder-band : tie.Need-slice-aggregate-reorder-band Inv-loop μ-loop
-slice-aggregate-reorder-band c = ?
+slice-aggregate-reorder-band c = sym (c .before .before .before .before .loop .inv .old-long)
 
--- src/lib.rt:66:43
 mul-reorder-band : tie.Need-mul-reorder-band Inv-loop μ-loop
-mul-reorder-band c = ?
+mul-reorder-band c = omega (arith, c .before .before .before .short-start .ensures, c .before .before .short-start2 .ensures, short-rises (c .before .before .before .before .before .before .before .before .args .rate) (c .before .before .before .before .before .loop .k), short-tops (c .before .before .before .before .before .before .before .before .args .rate) (c .before .before .before .before .before .loop .k + 1))
 
--- src/lib.rt:66:50
 sub-reorder-band : tie.Need-sub-reorder-band Inv-loop μ-loop
-sub-reorder-band c = ?
+sub-reorder-band c = omega (arith, c .before .before .before .short-start .ensures, c .before .before .short-start2 .ensures, short-rises (c .before .before .before .before .before .before .before .before .args .rate) (c .before .before .before .before .before .loop .k), short-tops (c .before .before .before .before .before .before .before .before .args .rate) (c .before .before .before .before .before .loop .k + 1))
 
--- src/lib.rt:66:9
 reorder-band-requires : tie.Need-reorder-band-requires Inv-loop μ-loop
-reorder-band-requires c κs = ?
+reorder-band-requires c κs =
+    let o = c .before .before .before .before .before .loop .inv in
+    (omega (arith, c .before .before .before .short-start .ensures, c .before .before .short-start2 .ensures, short-rises (c .before .before .before .before .before .before .before .before .args .rate) (c .before .before .before .before .before .loop .k), short-tops (c .before .before .before .before .before .before .before .before .args .rate) (c .before .before .before .before .before .loop .k + 1)), omega (arith, o .long, o .room), omega (arith, o .old-long))
 
--- src/lib.rt:67:9
 add-k : tie.Need-add-k Inv-loop μ-loop
-add-k c = ?
+add-k c = omega arith
 
--- src/lib.rt:63:5
 loop-less : tie.Need-loop-less Inv-loop μ-loop
-loop-less c = ?
+loop-less c = omega arith
 
--- src/lib.rt:63:5
 loop-again : tie.Need-loop-again Inv-loop μ-loop
-loop-again c = ?
+loop-again c =
+    let o = c .before .before .before .before .before .before .before .loop in
+    ordered-turn _ _ _ _ _ (o .inv) _ _ _ (c .before .before .before .before .before .short-start .ensures) (c .before .before .before .before .short-start2 .ensures)
+    (omega arith) (c .before .reorder-band .ensures)
 
--- src/lib.rt:57:1
 same-length : tie.Need-same-length Inv-loop μ-loop
-same-length c = ?
+same-length c = c .before .loop .inv .long
 
--- src/lib.rt:57:1
 returns : tie.Need-returns Inv-loop μ-loop
-returns c = ?
+returns c =
+    let numbers = now (c .before .before .before .before .args .numbers) in
+    ordered-end _ _ _ _ _ (c .before .loop .inv) (omega arith)
+    ∙ ap (λ (l : List ℤ). gathered (orderOf (c .before .before .before .before .args .rate)) l ++ drop 576 numbers) (c .before .before .first-576 .ensures)
 
 pub reorder-short-spec : {M : Type 1} → statement M
 reorder-short-spec =
