@@ -1,5 +1,6 @@
 -- The slots of a frame, cut from its main data one after the other (11172-3, 2.4.1.7 and 2.4.2.7, main_data, part2_3_length). A slot's
 -- outcome is told from exactly its own bits, its record, the header, and, where it shares, the outcome of its channel's granule 0 slot.
+use mathlib.Core.Path.{_≡_}
 use mathlib.Core.Bool.{Bool, true, false, not, _&&_, _||_}
 use mathlib.Core.List.{List, [], _∷_, _++_, map}
 use Prim.Native.Nat.{ℕ, zero, suc, _+_, _-_, _*_}
@@ -7,8 +8,8 @@ use lib.Dec.{ltb, leb, eqb}
 use lib.IntN.{ℤ}
 use lib.ListN.{length, getD, take, drop, replicate}
 use lib.Seq.{paste}
-use Rattle.standard.specs.Told.{Told, told, pick}
-use Rattle.standard.specs.Refusals.{numberOf, refuse, SlotTold, lacking, refusedBy, counted}
+use Rattle.standard.specs.Told.{Told, told, pick, toldOr, verdictOf}
+use Rattle.standard.specs.Refusals.{numberOf, refuse, toldVerdict, SlotTold, lacking, refusedBy, counted, toldSlot}
 use Rattle.standard.specs.Bits.{bits}
 use Rattle.standard.specs.Codes.{wordOf}
 use Rattle.standard.specs.Header.{isMpeg1, isIntensity, isHeader, granules, channelCount}
@@ -16,7 +17,8 @@ use Rattle.standard.specs.Record.{isShort}
 use Rattle.standard.specs.SideInfo.{isSide}
 use Rattle.standard.specs.Factors.{Source, planOf, planBits, factorsFrom, longFactors, shortFactors}
 use Rattle.standard.specs.Numbers.{Numbers, halted, got, numbersOf, padded}
-use Rattle.standard.specs.declared.SampleRate.{SampleRate}
+use Rattle.standard.specs.declared.Setting.{Setting}
+use Rattle.standard.specs.declared.SlotsAnswer.{SlotsAnswer}
 use Rattle.standard.specs.declared.FrameHeader.{FrameHeader}
 use Rattle.standard.specs.declared.SlotRecord.{SlotRecord}
 use Rattle.standard.specs.declared.SideInfo.{SideInfo}
@@ -37,13 +39,6 @@ unfoldable pub longOf : Outcome → List ℕ
 longOf (stopped r) = replicate 22 0
 longOf (holds long short vs) = long
 
--- what a slot is read by, besides its record
-pub record Setting : Type 0 where
-  pub mpeg1 : Bool
-  pub intensity : Bool
-  pub rate : SampleRate
-  pub shares : List Bool
-
 unfoldable pub anyOf : List Bool → Bool
 anyOf [] = false
 anyOf (x ∷ xs) = x || anyOf xs
@@ -52,16 +47,16 @@ unfoldable pub withFactors : Bool → List ℕ → Numbers → Outcome
 withFactors short fs (halted r) = stopped r
 withFactors short fs (got vs b) = holds (longFactors short fs) (shortFactors short fs) vs
 
--- by a plan of factors, mate being the outcome of the channel's granule 0 slot
-unfoldable pub slotBy : List Source → Setting → SlotRecord → Outcome → List Bool → Outcome
-slotBy plan g r mate b =
+-- by a plan of factors. `lost` says whether the channel's granule 0 slot was refused, and `old` has its long factors
+unfoldable pub slotBy : List Source → Setting → SlotRecord → Bool → List ℕ → List Bool → Outcome
+slotBy plan g r lost old b =
     pick (ltb (r .length) (planBits plan)) (stopped FactorOverrun)
-    (pick (anyOf (g .shares) && isStopped mate) (stopped LostShare)
-    (withFactors (isShort (r .block)) (factorsFrom plan (longOf mate) b) (numbersOf wordOf (g .rate) r (drop (planBits plan) b))))
+    (pick (anyOf (g .shares) && lost) (stopped LostShare)
+    (withFactors (isShort (r .block)) (factorsFrom plan old b) (numbersOf wordOf (g .rate) r (drop (planBits plan) b))))
 
 -- from exactly its own bits
-unfoldable pub slotOf : Setting → SlotRecord → Outcome → List Bool → Outcome
-slotOf g r mate b = slotBy (planOf (g .mpeg1) (g .intensity) (g .shares) r) g r mate b
+unfoldable pub slotOf : Setting → SlotRecord → Bool → List ℕ → List Bool → Outcome
+slotOf g r lost old b = slotBy (planOf (g .mpeg1) (g .intensity) (g .shares) r) g r lost old b
 
 -- ---- the slots one after the other
 -- the sharing bits in force for the n-th slot: its channel's in granule 1, and none in granule 0 or a short block
@@ -84,9 +79,9 @@ unfoldable pub mateOf : FrameHeader → List Outcome → Outcome
 mateOf h done = getD done (length done - channelCount h) (stopped MissingBits)
 
 -- a slot that starts at a bit place of the main data s
-unfoldable pub slotIn : List ℕ → ℕ → Setting → SlotRecord → Outcome → Outcome
-slotIn s at g r mate =
-    pick (leb (at + r .length) (8 * length s)) (slotOf g r mate (bits s at (r .length))) (stopped MissingBits)
+unfoldable pub slotIn : List ℕ → ℕ → Setting → SlotRecord → Bool → List ℕ → Outcome
+slotIn s at g r lost old =
+    pick (leb (at + r .length) (8 * length s)) (slotOf g r lost old (bits s at (r .length))) (stopped MissingBits)
 
 unfoldable pub thenSlots : Outcome → (Outcome → List Outcome) → List Outcome
 thenSlots o rest = o ∷ rest o
@@ -95,7 +90,7 @@ thenSlots o rest = o ∷ rest o
 unfoldable pub slotsFrom : FrameHeader → SideInfo → List ℕ → ℕ → List Outcome → List SlotRecord → List Outcome
 slotsFrom h i s at done [] = []
 slotsFrom h i s at done (r ∷ rs) =
-    thenSlots (slotIn s at (settingOf h i (length done) r) r (mateOf h done))
+    thenSlots (slotIn s at (settingOf h i (length done) r) r (isStopped (mateOf h done)) (longOf (mateOf h done)))
     (λ (o : Outcome). slotsFrom h i s (at + r .length) (done ++ (o ∷ [])) rs)
 
 unfoldable pub slotsOf : FrameHeader → SideInfo → List ℕ → List Outcome
@@ -122,6 +117,12 @@ numbersAfter (holds long short vs) at d = paste d at (padded vs) 576
 unfoldable pub numbersFrom : ℕ → List Outcome → List ℤ → List ℤ
 numbersFrom at [] d = d
 numbersFrom at (o ∷ os) d = numbersFrom (at + 576) os (numbersAfter o at d)
+
+-- what is answered of the slots, and the lent numbers after them
+pub record SlotsRead (d : List ℤ) (t : Told (List Outcome)) (r : SlotsAnswer) (left : List ℤ) : Type 0 where
+  pub verdict : toldVerdict (r .verdict) ≡ verdictOf t
+  pub slots : map toldSlot (r .slots) ≡ slotsTold (toldOr [] t)
+  pub numbers : left ≡ numbersFrom 0 (toldOr [] t) d
 
 -- ---- the call on main data of any length, with d numbers lent
 unfoldable pub readSlots : FrameHeader → SideInfo → List ℕ → ℕ → Told (List Outcome)

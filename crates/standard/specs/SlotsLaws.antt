@@ -24,8 +24,9 @@ use Rattle.standard.specs.Header.{granules, channelCount}
 use Rattle.standard.specs.Record.{isShort}
 use Rattle.standard.specs.Factors.{Source, planOf, planBits, factorsFrom}
 use Rattle.standard.specs.Numbers.{Reader, numberIn, twoLast, twoFirst, twoOf, pairAfter, pairWord, pairOf, quadLast, quadFirst, quadWord, quadOf, Numbers, halted, got, prepend, thenPairs, pairs, thenQuads, quads, thenRest, numbersBy, regionsOf, tableAt, numbersOf, quadTable, padded}
-use Rattle.standard.specs.Slots.{Outcome, stopped, holds, isStopped, longOf, Setting, anyOf, withFactors, slotBy, slotOf, settingOf, mateOf, slotIn, thenSlots, slotsFrom, slotsOf, numbersAfter, numbersFrom}
+use Rattle.standard.specs.Slots.{Outcome, stopped, holds, isStopped, longOf, anyOf, withFactors, slotBy, slotOf, settingOf, mateOf, slotIn, thenSlots, slotsFrom, slotsOf, numbersAfter, numbersFrom}
 use Rattle.standard.specs.declared.SampleRate.{SampleRate}
+use Rattle.standard.specs.declared.Setting.{Setting}
 use Rattle.standard.specs.declared.FrameHeader.{FrameHeader}
 use Rattle.standard.specs.declared.SlotRecord.{SlotRecord}
 use Rattle.standard.specs.declared.SideInfo.{SideInfo}
@@ -135,22 +136,22 @@ unfolding pick
 pick-present true o q e f = e
 pick-present false o q e f = f
 
-pub slot-present : (g : Setting) (r : SlotRecord) (mate : Outcome) (b : List Bool) → present (slotOf g r mate b) ≡ true
+pub slot-present : (g : Setting) (r : SlotRecord) (lost : Bool) (old : List ℕ) (b : List Bool) → present (slotOf g r lost old b) ≡ true
 unfolding slotOf slotBy present isMissing
-slot-present g r mate b =
+slot-present g r lost old b =
     pick-present (ltb (r .length) (planBits (planOf (g .mpeg1) (g .intensity) (g .shares) r))) _ _ refl
-    (pick-present (anyOf (g .shares) && isStopped mate) _ _ refl (factors-present (isShort (r .block)) _ _ (numbers-there wordOf (g .rate) r _)))
+    (pick-present (anyOf (g .shares) && lost) _ _ refl (factors-present (isShort (r .block)) _ _ (numbers-there wordOf (g .rate) r _)))
 
 -- ---- one slot at its place
-pub slotIn-missing : (s : List ℕ) (at : ℕ) (g : Setting) (r : SlotRecord) (mate : Outcome) → 8 * length s < at + r .length
-    → slotIn s at g r mate ≡ stopped MissingBits
+pub slotIn-missing : (s : List ℕ) (at : ℕ) (g : Setting) (r : SlotRecord) (lost : Bool) (old : List ℕ) → 8 * length s < at + r .length
+    → slotIn s at g r lost old ≡ stopped MissingBits
 unfolding slotIn
-slotIn-missing s at g r mate h = passed _ (lt-leb _ _ h)
+slotIn-missing s at g r lost old h = passed _ (lt-leb _ _ h)
 
-pub slotIn-read : (s : List ℕ) (at : ℕ) (g : Setting) (r : SlotRecord) (mate : Outcome) → at + r .length ≤ 8 * length s
-    → slotIn s at g r mate ≡ slotOf g r mate (bits s at (r .length))
+pub slotIn-read : (s : List ℕ) (at : ℕ) (g : Setting) (r : SlotRecord) (lost : Bool) (old : List ℕ) → at + r .length ≤ 8 * length s
+    → slotIn s at g r lost old ≡ slotOf g r lost old (bits s at (r .length))
 unfolding slotIn
-slotIn-read s at g r mate h = picked _ (le-leb _ _ h)
+slotIn-read s at g r lost old h = picked _ (le-leb _ _ h)
 
 -- where the n-th slot starts: the lengths before it
 unfoldable pub startOf : ℕ → List SlotRecord → ℕ
@@ -164,32 +165,32 @@ module _ (h : FrameHeader) (i : SideInfo) where
       → getD (slotsFrom h i s at done rs) n (stopped MissingBits) ≡ stopped MissingBits
   unfolding slotsFrom startOf thenSlots
   missing-from s [] n at done k = refl
-  missing-from s (r ∷ rs) zero at done k = slotIn-missing s at _ r _ (omega arith)
+  missing-from s (r ∷ rs) zero at done k = slotIn-missing s at _ r _ _ (omega arith)
   missing-from s (r ∷ rs) (suc n) at done k = missing-from s rs n (at + r .length) _ (omega arith)
 
   present-from : (s : List ℕ) (rs : List SlotRecord) (n at : ℕ) (done : List Outcome) → n < length rs → at + startOf (suc n) rs ≤ 8 * length s
       → present (getD (slotsFrom h i s at done rs) n (stopped MissingBits)) ≡ true
   unfolding slotsFrom startOf thenSlots
   present-from s [] n at done l k = absurd (omega arith)
-  present-from s (r ∷ rs) zero at done l k = ap present (slotIn-read s at _ r _ (omega arith)) ∙ slot-present _ r _ _
+  present-from s (r ∷ rs) zero at done l k = ap present (slotIn-read s at _ r _ _ (omega arith)) ∙ slot-present _ r _ _ _
   present-from s (r ∷ rs) (suc n) at done l k = present-from s rs n (at + r .length) _ (omega arith) (omega arith)
 
   -- ---- bytes after
   module _ (xs ys : List ℕ) where
-    slotIn-append : (at : ℕ) (g : Setting) (r : SlotRecord) (mate : Outcome) → at + r .length ≤ 8 * length xs
-        → slotIn (xs ++ ys) at g r mate ≡ slotIn xs at g r mate
-    slotIn-append at g r mate k =
+    slotIn-append : (at : ℕ) (g : Setting) (r : SlotRecord) (lost : Bool) (old : List ℕ) → at + r .length ≤ 8 * length xs
+        → slotIn (xs ++ ys) at g r lost old ≡ slotIn xs at g r lost old
+    slotIn-append at g r lost old k =
         let m : at + r .length ≤ 8 * length (xs ++ ys) = simp length-append (omega arith) in
-        slotIn-read (xs ++ ys) at g r mate m ∙ ap (slotOf g r mate) (bits-append xs ys (r .length) at k) ∙ sym (slotIn-read xs at g r mate k)
+        slotIn-read (xs ++ ys) at g r lost old m ∙ ap (slotOf g r lost old) (bits-append xs ys (r .length) at k) ∙ sym (slotIn-read xs at g r lost old k)
 
     same-from : (rs : List SlotRecord) (n at : ℕ) (done : List Outcome) → at + startOf (suc n) rs ≤ 8 * length xs
         → getD (slotsFrom h i (xs ++ ys) at done rs) n (stopped MissingBits) ≡ getD (slotsFrom h i xs at done rs) n (stopped MissingBits)
     unfolding slotsFrom startOf thenSlots
     same-from [] n at done k = refl
-    same-from (r ∷ rs) zero at done k = slotIn-append at _ r _ (omega arith)
+    same-from (r ∷ rs) zero at done k = slotIn-append at _ r _ _ (omega arith)
     same-from (r ∷ rs) (suc n) at done k =
         same-from rs n (at + r .length) _ (omega arith)
-        ∙ ap (λ (o : Outcome). getD (slotsFrom h i xs (at + r .length) (done ++ (o ∷ [])) rs) n (stopped MissingBits)) (slotIn-append at _ r _ (omega arith))
+        ∙ ap (λ (o : Outcome). getD (slotsFrom h i xs (at + r .length) (done ++ (o ∷ [])) rs) n (stopped MissingBits)) (slotIn-append at _ r _ _ (omega arith))
 
   length-from : (s : List ℕ) (rs : List SlotRecord) (at : ℕ) (done : List Outcome) → length (slotsFrom h i s at done rs) ≡ length rs
   unfolding slotsFrom thenSlots
@@ -328,8 +329,9 @@ same-numbers h i xs ys n d k l four found =
     ∙ ap (λ (o : Outcome). ownOf o (partOf (576 * n) d)) (same-outcome h i xs ys n found)
     ∙ sym (own-numbers (slotsOf h i xs) n d k (omega arith))
 
--- ---- a slot's outcome is that of its own bits: two main datas that agree there, after the same mate, agree on it
-pub own-bits : (xs ys : List ℕ) (at bt : ℕ) (g : Setting) (r : SlotRecord) (mate : Outcome)
+-- ---- a slot's outcome is that of its own bits: two main datas that agree there, after granule 0 slots with the
+-- same factors, agree on it
+pub own-bits : (xs ys : List ℕ) (at bt : ℕ) (g : Setting) (r : SlotRecord) (lost : Bool) (old : List ℕ)
     → at + r .length ≤ 8 * length xs → bt + r .length ≤ 8 * length ys → bits xs at (r .length) ≡ bits ys bt (r .length)
-    → slotIn xs at g r mate ≡ slotIn ys bt g r mate
-own-bits xs ys at bt g r mate h k e = slotIn-read xs at g r mate h ∙ ap (slotOf g r mate) e ∙ sym (slotIn-read ys bt g r mate k)
+    → slotIn xs at g r lost old ≡ slotIn ys bt g r lost old
+own-bits xs ys at bt g r lost old h k e = slotIn-read xs at g r lost old h ∙ ap (slotOf g r lost old) e ∙ sym (slotIn-read ys bt g r lost old k)

@@ -143,6 +143,15 @@ pub struct SideInfoAnswer {
     pub info: SideInfo,
 }
 
+// What a slot is read by, besides its record: whether the version is MPEG-1, whether it is the second channel under intensity
+// stereo, the sampling rate, and the sharing bits in force for its four groups of factors.
+pub struct Setting {
+    pub mpeg1: bool,
+    pub intensity: bool,
+    pub rate: SampleRate,
+    pub shares: [bool; 4],
+}
+
 // What became of a slot: read, with its count of numbers up to the last that was coded; refused; or one that the frame lacks.
 pub enum SlotOutcome {
     Read { count: u16 },
