@@ -31,6 +31,7 @@ pub mod HeaderLaws
 pub mod HeaderBytes
 pub mod RecordBits
 pub mod SideBytes
+pub mod SideLaws
 pub mod SlotsLaws
 pub mod CopyLaws
 pub mod ReservoirLaws

@@ -292,7 +292,7 @@ beginning-side h i known e =
     let t = isTwo (h .channels) in
     picked _ known ∙ ap (λ (from : ℕ). sideFrom m t from (headerBytes h ++ pack (sideBytes m t) (sideBits m t i))) (sym (length-header h)) ∙ side-after m t i e (headerBytes h)
 
-side-known : (h : FrameHeader) (i : SideInfo) (s : List ℕ) → isHeader h ≡ true → sideOf h s ≡ told i → isSide h i ≡ true
+pub side-known : (h : FrameHeader) (i : SideInfo) (s : List ℕ) → isHeader h ≡ true → sideOf h s ≡ told i → isSide h i ≡ true
 unfolding sideOf isSide
 side-known h i s known e = from-known (isMpeg1 (h .version)) (isTwo (h .channels)) (headerSize h) s i (sym (picked _ known) ∙ e)
 
@@ -304,7 +304,7 @@ side-read h i known = (
 )
 
 -- ---- a slot's record by itself
-fit-at : (mpeg1 : Bool) (n : ℕ) (rs : List SlotRecord) (k : ℕ) → fitSlots mpeg1 n rs ≡ true → k < n → isRecord mpeg1 (getD rs k absent) ≡ true
+pub fit-at : (mpeg1 : Bool) (n : ℕ) (rs : List SlotRecord) (k : ℕ) → fitSlots mpeg1 n rs ≡ true → k < n → isRecord mpeg1 (getD rs k absent) ≡ true
 unfolding fitSlots
 fit-at mpeg1 zero rs k e h = absurd (omega arith)
 fit-at mpeg1 (suc n) [] k e h = never e

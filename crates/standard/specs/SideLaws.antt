@@ -1,0 +1,39 @@
+-- What accepted side information says of its slots: there are four records, and those of the frame's slots are small.
+use mathlib.Core.Path.{_≡_, refl, sym, ap, _∙_}
+use mathlib.Core.Bool.{Bool, true, false, _&&_}
+use Prim.Native.Nat.{ℕ, _*_, _^_, _≤_, _<_}
+use borrow.Author.Tests.{eqb-true, ltb-true, leb-true}
+use lib.Dec.{eqb, ltb, leb}
+use lib.ListN.{length, getD}
+use Rattle.standard.specs.ToldLaws.{both-of}
+use Rattle.standard.specs.Header.{isMpeg1, isTwo, granules, channelCount}
+use Rattle.standard.specs.Record.{absent, isRecord, isHead, isPreflag}
+use Rattle.standard.specs.SideInfo.{areSlots, areShares, isSideBy, isSide, fitSlots, beginWidth, slotCount, shareCount}
+use Rattle.standard.specs.SideBytes.{fit-at}
+use Rattle.standard.specs.declared.FrameHeader.{FrameHeader}
+use Rattle.standard.specs.declared.SlotRecord.{SlotRecord}
+use Rattle.standard.specs.declared.SideInfo.{SideInfo}
+
+module _ (h : FrameHeader) (i : SideInfo) (e : isSide h i ≡ true) where
+  are-slots : (eqb (length (i .slots)) 4 ≡ true) × (fitSlots (isMpeg1 (h .version)) (slotCount (isMpeg1 (h .version)) (isTwo (h .channels))) (i .slots) ≡ true)
+  unfolding isSide isSideBy areSlots
+  are-slots =
+      let mpeg1 = isMpeg1 (h .version) in
+      let two = isTwo (h .channels) in
+      both-of (eqb (length (i .slots)) 4) _
+      (both-of (ltb (i .begin) (2 ^ beginWidth mpeg1) && areShares (shareCount mpeg1 two) (i .shares)) (areSlots mpeg1 (slotCount mpeg1 two) (i .slots)) e .1)
+
+  pub four-slots : length (i .slots) ≡ 4
+  four-slots = eqb-true _ 4 (are-slots .0)
+
+  pub slot-record : (n : ℕ) → n < granules h * channelCount h → isRecord (isMpeg1 (h .version)) (getD (i .slots) n absent) ≡ true
+  unfolding granules channelCount
+  slot-record n k = fit-at (isMpeg1 (h .version)) _ (i .slots) n (are-slots .1) k
+
+-- a record that bytes read to
+pub small-record : (mpeg1 : Bool) (r : SlotRecord) → isRecord mpeg1 r ≡ true → (r .length < 4096) × (r .pairs ≤ 288)
+unfolding isRecord isHead
+small-record mpeg1 r e =
+    let head = both-of _ _ (both-of _ _ e .0) in
+    let first = both-of _ _ (both-of _ _ (head .0) .0) in
+    (ltb-true _ _ (first .0), leb-true _ _ (first .1))
