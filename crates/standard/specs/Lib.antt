@@ -32,6 +32,7 @@ pub mod HeaderBytes
 pub mod RecordBits
 pub mod SideBytes
 pub mod SideLaws
+pub mod NumbersLaws
 pub mod SharingLaws
 pub mod SlotsLaws
 pub mod CopyLaws

@@ -53,3 +53,9 @@ neither {a} {b} p q = ap (λ (x : Bool). x || b) p ∙ q
 pub below-not : (m n : ℕ) → ltb m n ≡ not (leb n m)
 below-not m n =
     elim (decLt m n) [ yes h ↦ lt-ltb m n h ∙ sym (ap not (lt-leb n m h)) | no h ↦ le-ltb m n (omega arith) ∙ sym (ap not (le-leb n m (omega arith))) ]
+
+-- what holds of either side of a pick, under its test, holds of the pick
+pub either-way : {A : Type 0} (F : A → Type 0) (b : Bool) (x y : A) → (b ≡ true → F x) → (b ≡ false → F y) → F (pick b x y)
+unfolding pick
+either-way F true x y f g = f refl
+either-way F false x y f g = g refl

@@ -1,0 +1,5 @@
+pub mod Within
+pub mod Filling
+pub mod Whole
+pub mod Copying
+pub mod Published

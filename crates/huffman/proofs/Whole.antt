@@ -1,0 +1,124 @@
+-- Why a slot's pairs and quads together leave what the definition says: what was read stands first, behind it stand the zeros that stood
+-- there before, and that is the padded whole.
+use mathlib.Core.Path.{_≡_, refl, sym, ap, _∙_, subst}
+use mathlib.Core.List.{List, [], _++_}
+use Prim.Native.Nat.{ℕ, zero, suc, _-_, _*_, _/_, _≤_, _<_}
+use native.Mathlib.Nat.{sub-zero, zero-sub}
+use native.Mathlib.Omega.{arith}
+use lib.IntN.{ℤ, pos}
+use lib.ListN.{length, take, drop, replicate, take-append-drop}
+use lib.Seq.{paste, length-take-le}
+use Rattle.standard.specs.Told.{told}
+use Rattle.standard.specs.Bits.{window}
+use Rattle.standard.specs.Numbers.{Numbers, halted, got, prepend, quadTable, regionsOf, tableAt, pairs, quads, thenRest, numbersBy, numbersOf, padded}
+use Rattle.standard.specs.NumbersLaws.{numbers-none, numbers-some}
+use Rattle.standard.specs.declared.SampleRate.{SampleRate}
+use Rattle.standard.specs.declared.SlotRecord.{SlotRecord}
+use Rattle.standard.specs.declared.Refusal.{Refusal}
+use Rattle.standard.specs.declared.Refusal.the-variants.{RegionOverrun}
+use Rattle.standard.specs.declared.Regions.{Regions}
+use Rattle.standard.specs.declared.Regions.the-variants.{Split, NoRegions}
+use Rattle.tables.specs.Walk.{lookedUp}
+use Rattle.huffman.specs.Slot.{countOf, numbersAfter}
+use Rattle.huffman.specs.Runs.{pairsSaid, PairsRead, Gave, Filled, Says, NumbersRead}
+use Rattle.huffman.specs.declared.runs.Ended.{Ended}
+use Rattle.huffman.specs.declared.runs.Ended.the-variants.{At, Halted}
+use Rattle.huffman.specs.declared.HuffmanAnswer.{HuffmanAnswer}
+use Rattle.huffman.specs.declared.HuffmanAnswer.the-variants.{Counted, Uncounted}
+use Rattle.huffman.proofs.Filling.{drop-on}
+
+-- ---- pairs, then quads
+says-on : (q q' : Numbers) (from : ℕ) (out₀ out₁ out : List ℤ) → q ≡ q' → drop from out₁ ≡ drop from out₀
+    → (a : HuffmanAnswer) → Says q' from out₁ out a → Says q 0 out₀ out a
+unfolding Says
+says-on q q' from out₀ out₁ out e k (Uncounted why) f = e ∙ f
+says-on q q' from out₀ out₁ out e k (Counted n) f = record {
+  low = omega arith;
+  high = f .high;
+  gave = record { rest = f .gave .rest; same = e ∙ f .gave .same };
+  kept = f .kept ∙ drop-on from n out₁ out₀ (f .low) k;
+}
+
+module _ (trees : List ℕ) (rate : SampleRate) (r : SlotRecord) (s : List ℕ) (at e : ℕ) (out₀ : List ℤ) where
+  pub none-read : length out₀ ≡ 576 → e ≤ at → NumbersRead (numbersOf (lookedUp trees) rate r (window s at e)) 0 out₀ out₀ (Counted 0)
+  unfolding Says
+  none-read l h = record {
+    long = l;
+    says = record {
+      low = omega arith;
+      high = omega arith;
+      gave = record { rest = []; same = numbers-none (lookedUp trees) rate r s at e h };
+      kept = refl;
+    };
+  }
+
+  module _ (h : at < e) where
+    pub no-regions : length out₀ ≡ 576 → NoRegions ≡ regionsOf rate r
+        → NumbersRead (numbersOf (lookedUp trees) rate r (window s at e)) 0 out₀ out₀ (Uncounted RegionOverrun)
+    unfolding Says numbersBy
+    no-regions l g = record {
+      long = l;
+      says = numbers-some (lookedUp trees) rate r s at e h ∙ ap (λ (x : Regions). numbersBy (lookedUp trees) r x (window s at e)) (sym g);
+    }
+
+    -- what the whole is after its pairs
+    module _ (first second n : ℕ) (out₁ : List ℤ) (x : Ended) (g : Split first second ≡ regionsOf rate r) (hn : n ≡ r .pairs)
+        (p : PairsRead (pairs (lookedUp trees) (tableAt first second (r .tables)) 0 n (window s at e)) n s e out₀ out₁ x) where
+      after-pairs : numbersOf (lookedUp trees) rate r (window s at e) ≡ thenRest (lookedUp trees) (quadTable (r .count1)) n (pairsSaid x (take (2 * n) out₁) s e)
+      unfolding numbersBy
+      after-pairs =
+          numbers-some (lookedUp trees) rate r s at e h ∙ ap (λ (y : Regions). numbersBy (lookedUp trees) r y (window s at e)) (sym g)
+          ∙ ap (λ (m : ℕ). thenRest (lookedUp trees) (quadTable (r .count1)) m (pairs (lookedUp trees) (tableAt first second (r .tables)) 0 m (window s at e))) (sym hn)
+          ∙ ap (thenRest (lookedUp trees) (quadTable (r .count1)) n) (p .same)
+
+      pub pairs-halted : (why : Refusal) → x ≡ Halted why → NumbersRead (numbersOf (lookedUp trees) rate r (window s at e)) 0 out₀ out₁ (Uncounted why)
+      unfolding Says thenRest pairsSaid
+      pairs-halted why d = record {
+        long = p .long;
+        says = after-pairs ∙ ap (λ (y : Ended). thenRest (lookedUp trees) (quadTable (r .count1)) n (pairsSaid y (take (2 * n) out₁) s e)) d;
+      }
+
+      pub quads-read : (place t : ℕ) (out : List ℤ) (a : HuffmanAnswer) → x ≡ At place → t ≡ quadTable (r .count1)
+          → NumbersRead (prepend (take (2 * n) out₁) (quads (lookedUp trees) t ((576 - 2 * n) / 4) (window s place e))) (2 * n) out₁ out a
+          → NumbersRead (numbersOf (lookedUp trees) rate r (window s at e)) 0 out₀ out a
+      unfolding thenRest pairsSaid
+      quads-read place t out a d ht f = record {
+        long = f .long;
+        says =
+            says-on (numbersOf (lookedUp trees) rate r (window s at e)) (prepend (take (2 * n) out₁) (quads (lookedUp trees) t ((576 - 2 * n) / 4) (window s place e))) (2 * n) out₀ out₁ out
+            (after-pairs ∙ (λ j. thenRest (lookedUp trees) (sym ht j) n (pairsSaid (d j) (take (2 * n) out₁) s e)))
+            (p .kept) a (f .says);
+      }
+
+-- ---- the whole, over zeros
+drop-replicate : (k n : ℕ) (z : ℤ) → drop k (replicate n z) ≡ replicate (n - k) z
+drop-replicate zero n z = rw sub-zero
+drop-replicate (suc k) zero z = rw zero-sub
+drop-replicate (suc k) (suc n) z = let p : n - k ≡ suc n - suc k = omega arith in drop-replicate k n z ∙ ap (λ (m : ℕ). replicate m z) p
+
+pub whole-halted : (q : Numbers) (out₀ out : List ℤ) (a : HuffmanAnswer) (why : Refusal) → NumbersRead q 0 out₀ out a → a ≡ Uncounted why → q ≡ halted why
+unfolding Says
+whole-halted q out₀ out a why f e = subst (Says q 0 out₀ out) e (f .says)
+
+module _ (q : Numbers) (out : List ℤ) (a : HuffmanAnswer) (n : ℕ) (f : NumbersRead q 0 (replicate 576 (pos 0)) out a) (e : a ≡ Counted n) where
+  filled : Filled q 0 (replicate 576 (pos 0)) out n
+  unfolding Says
+  filled = subst (Says q 0 (replicate 576 (pos 0)) out) e (f .says)
+
+  count-is : length (take n out) ≡ n
+  count-is = length-take-le n out (omega (arith, f .long, filled .high))
+
+  padded-is : padded (take n out) ≡ out
+  unfolding padded
+  padded-is =
+      ap (λ (m : ℕ). take n out ++ replicate (576 - m) (pos 0)) count-is
+      ∙ ap (λ (l : List ℤ). take n out ++ l) (sym (filled .kept ∙ drop-replicate n 576 (pos 0)))
+      ∙ take-append-drop n out
+
+  -- so what is told of q, and of the lent numbers d that became d', is what was read and copied
+  pub whole-read : (d d' : List ℤ) → d' ≡ paste d 0 out 576 → (told n ≡ countOf q) × (d' ≡ numbersAfter q d)
+  unfolding countOf numbersAfter
+  whole-read d d' g = (
+    sym (ap countOf (filled .gave .same) ∙ ap told count-is),
+    g ∙ sym (ap (λ (x : Numbers). numbersAfter x d) (filled .gave .same) ∙ ap (λ (l : List ℤ). paste d 0 l 576) padded-is),
+  )

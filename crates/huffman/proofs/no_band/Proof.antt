@@ -1,0 +1,36 @@
+-- `huffman::no_band` meets its contract: of a block that is not long the definition asks nothing more.
+-- Assumes nothing.
+use borrow.Author.Needs.{needs}
+use Rattle.huffman.proofs.no_band.Statement.{statement}
+use Rattle.huffman.proofs.no_band.Tie as tie
+use Rattle.huffman.proofs.no_band.Reads as reads
+use Rattle.huffman.proofs.no_band.Lts as lts
+
+enum-told : tie.Need-enum-told
+enum-told c = search needs
+
+enum-told-2 : tie.Need-enum-told-2
+enum-told-2 c = search needs
+
+enum-told-3 : tie.Need-enum-told-3
+enum-told-3 c = search needs
+
+enum-told-4 : tie.Need-enum-told-4
+enum-told-4 c = search needs
+
+returns : tie.Need-returns
+returns c = rw (c .enum-told .given .1)
+
+returns-2 : tie.Need-returns-2
+returns-2 c = search needs
+
+returns-3 : tie.Need-returns-3
+returns-3 c = search needs
+
+returns-4 : tie.Need-returns-4
+returns-4 c = search needs
+
+pub no-band-spec : {M : Type 1} → statement M
+no-band-spec =
+    tie.close
+    (tie.spec enum-told enum-told-2 enum-told-3 enum-told-4 returns returns-2 returns-3 returns-4)

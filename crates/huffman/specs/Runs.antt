@@ -1,0 +1,44 @@
+-- What the runs of pairs and quads leave in the numbers that are lent to them. q is what the run comes to by the definition, out₀ and out are
+-- the numbers before and after it.
+use mathlib.Core.Path.{_≡_}
+use mathlib.Core.Bool.{Bool}
+use mathlib.Core.List.{List}
+use Prim.Native.Nat.{ℕ, _*_, _≤_}
+use lib.IntN.{ℤ}
+use lib.ListN.{length, take, drop}
+use Rattle.standard.specs.Bits.{window}
+use Rattle.standard.specs.Numbers.{Numbers, halted, got}
+use Rattle.huffman.specs.declared.HuffmanAnswer.{HuffmanAnswer}
+use Rattle.huffman.specs.declared.HuffmanAnswer.the-variants.{Counted, Uncounted}
+use Rattle.huffman.specs.declared.runs.Ended.{Ended}
+use Rattle.huffman.specs.declared.runs.Ended.the-variants.{At, Halted}
+
+-- n pairs were read, and the bits left start at a place; or they were not
+unfoldable pub pairsSaid : Ended → List ℤ → List ℕ → ℕ → Numbers
+pairsSaid (Halted r) vs s e = halted r
+pairsSaid (At p) vs s e = got vs (window s p e)
+
+pub record PairsRead (q : Numbers) (n : ℕ) (s : List ℕ) (e : ℕ) (out₀ out : List ℤ) (r : Ended) : Type 0 where
+  pub long : length out ≡ 576
+  pub same : q ≡ pairsSaid r (take (2 * n) out) s e
+  pub kept : drop (2 * n) out ≡ drop (2 * n) out₀
+
+-- q was read up to the numbers vs, whichever bits are left
+pub record Gave (q : Numbers) (vs : List ℤ) : Type 0 where
+  pub rest : List Bool
+  pub same : q ≡ got vs rest
+
+-- the first n numbers were read, at least `from` of them, and those after them stand as before
+pub record Filled (q : Numbers) (from : ℕ) (out₀ out : List ℤ) (n : ℕ) : Type 0 where
+  pub low : from ≤ n
+  pub high : n ≤ 576
+  pub gave : Gave q (take n out)
+  pub kept : drop n out ≡ drop n out₀
+
+unfoldable pub Says : Numbers → ℕ → List ℤ → List ℤ → HuffmanAnswer → Type 0
+Says q from out₀ out (Uncounted r) = q ≡ halted r
+Says q from out₀ out (Counted n) = Filled q from out₀ out n
+
+pub record NumbersRead (q : Numbers) (from : ℕ) (out₀ out : List ℤ) (r : HuffmanAnswer) : Type 0 where
+  pub long : length out ≡ 576
+  pub says : Says q from out₀ out r

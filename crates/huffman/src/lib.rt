@@ -1,0 +1,157 @@
+// A slot's numbers, from the bits after its scale factors: regions, pairs, quads.
+mod runs;
+mod signed;
+mod words;
+
+use runs::Ended;
+use runs::read_pairs;
+use runs::read_quads;
+use standard::BlockType;
+use standard::Refusal;
+use standard::Regions;
+use standard::SampleRate;
+use standard::SlotRecord;
+use tables::bands::long_start;
+ghost use mathlib.Core.Path.{_≡_};
+ghost use mathlib.Core.Bool.{_&&_};
+ghost use Prim.Native.Nat.{_≤_};
+ghost use lib.Dec.{ltb};
+ghost use lib.ListN.{length};
+ghost use lib.Seq.{paste};
+ghost use Rattle.standard.specs.Bits.{window};
+ghost use Rattle.standard.specs.Record.{isShort, isLong};
+ghost use Rattle.standard.specs.Numbers.{quadTable, regionsOf, numbersOf};
+ghost use Rattle.tables.specs.Walk.{lookedUp};
+ghost use Rattle.huffman.specs.Slot.{slotNumbers, toldCount, countOf, numbersAfter};
+ghost use Rattle.huffman.specs.Runs.{NumbersRead};
+
+// How many numbers of a slot were coded, or why it is refused.
+pub enum HuffmanAnswer {
+    Counted { count: u16 },
+    Uncounted(Refusal),
+}
+
+fn is_short(block: BlockType) -> bool
+    ensures { λ r. ⌜ r ≡ isShort block ⌝ }
+{
+    match block {
+        BlockType::Short => true,
+        BlockType::Long => false,
+        BlockType::Start => false,
+        BlockType::End => false,
+    }
+}
+
+// Whether there is no band to change at: the region counts of a block that is not switched are read, and may sum up to more.
+fn no_band(block: BlockType, regions: usize) -> bool
+    ensures { λ r. ⌜ r ≡ isLong block && ltb 20 regions ⌝ }
+{
+    match block {
+        BlockType::Long => 20 < regions,
+        BlockType::Start => false,
+        BlockType::Short => false,
+        BlockType::End => false,
+    }
+}
+
+// Where the tables of a slot's pairs change.
+pub fn regions_of(rate: SampleRate, r: SlotRecord) -> Regions
+    ensures { λ a. ⌜ a ≡ regionsOf rate r ⌝ }
+{
+    let block = r.block;
+    if is_short(block) {
+        return Regions::Split {
+            first: 36,
+            second: 576,
+        };
+    }
+    let zero = r.region0 as usize;
+    let one = r.region1 as usize;
+    if no_band(block, zero + one) {
+        return Regions::NoRegions;
+    }
+    Regions::Split {
+        first: long_start(rate, zero + 1),
+        second: long_start(rate, zero + one + 2),
+    }
+}
+
+// The table of a slot's quads: A or B.
+fn quad_table(count1: bool) -> usize
+    ensures { λ r. ⌜ r ≡ quadTable count1 ⌝ }
+{
+    if count1 {
+        return 33;
+    }
+    32
+}
+
+// A slot's numbers into lent ones, which behind them stay as they were.
+fn decode(
+    trees: &[u16],
+    rate: SampleRate,
+    r: SlotRecord,
+    s: &[u8],
+    at: usize,
+    end: usize,
+    out: &mut [i32; 576],
+) -> HuffmanAnswer
+    requires { ⌜ (r .pairs ≤ 288) × (length (now out) ≡ 576) ⌝ }
+    ensures { λ a. ⌜ NumbersRead (numbersOf (lookedUp (now (trees .entry))) rate r (window (now (s .entry)) at end)) 0 (now (out .entry)) (now (out .exit)) a ⌝ }
+{
+    if end <= at {
+        return HuffmanAnswer::Counted { count: 0 };
+    }
+    let Regions::Split { first, second } = regions_of(rate, r) else {
+        return HuffmanAnswer::Uncounted(Refusal::RegionOverrun);
+    };
+    let tables = r.tables;
+    let n = r.pairs as usize;
+    match read_pairs(trees, first, second, tables, n, s, at, end, out) {
+        Ended::Halted(why) => HuffmanAnswer::Uncounted(why),
+        Ended::At { place } => {
+            read_quads(trees, quad_table(r.count1), s, place, end, 2 * n, out)
+        }
+    }
+}
+
+fn copy_in(src: &[i32; 576], dst: &mut [i32])
+    requires { ⌜ (576 ≤ length (now dst)) × (length (now src) ≡ 576) ⌝ }
+    ensures { λ _. ⌜ now (dst .exit) ≡ paste (now (dst .entry)) 0 (now (src .entry)) 576 ⌝ }
+{
+    let mut i: usize = 0;
+    while i < 576 {
+        dst[i] = src[i];
+        i += 1;
+    }
+}
+
+// A slot's numbers from the bits between two places of s, into the first 576 lent ones, the rest of which is 0. They are read
+// elsewhere first, so that a refused slot changes none.
+pub fn read_huffman(
+    trees: &[u16],
+    rate: SampleRate,
+    r: SlotRecord,
+    s: &[u8],
+    at: u32,
+    end: u32,
+    numbers: &mut [i32],
+) -> HuffmanAnswer
+    ensures { λ a. ⌜ toldCount a ≡ countOf (slotNumbers (lookedUp (now (trees .entry))) rate r (window (now (s .entry)) at end) (now (numbers .entry))) ⌝ }
+    ensures { λ _. ⌜ now (numbers .exit) ≡ numbersAfter (slotNumbers (lookedUp (now (trees .entry))) rate r (window (now (s .entry)) at end) (now (numbers .entry))) (now (numbers .entry)) ⌝ }
+{
+    if numbers.len() < 576 {
+        return HuffmanAnswer::Uncounted(Refusal::UnfitMemory);
+    }
+    if r.pairs > 288 {
+        return HuffmanAnswer::Uncounted(Refusal::TooManyPairs);
+    }
+    let mut scratch = [0i32; 576];
+    match decode(trees, rate, r, s, at as usize, end as usize, &mut scratch) {
+        HuffmanAnswer::Uncounted(why) => HuffmanAnswer::Uncounted(why),
+        HuffmanAnswer::Counted { count } => {
+            copy_in(&scratch, numbers);
+            HuffmanAnswer::Counted { count }
+        }
+    }
+}
