@@ -286,3 +286,22 @@ field-in-three s at m h h0 h1 h2 =
     ∙ sym (field-bits s (8 * (at / 8)) 24 (at % 8) m (omega arith))
     ∙ field-value (bits s (8 * (at / 8)) 24) (at % 8) m (24 - at % 8 - m) l
     ∙ ap (λ (v : ℕ). v / 2 ^ (24 - at % 8 - m) % 2 ^ m) (three-bytes s (at / 8) h0 h1 h2)
+
+-- ---- a field of a list of bytes: in two parts, within a longer one, and of a bit
+pub fieldAt-add : (s : List ℕ) (at m n : ℕ) → fieldAt s at (m + n) ≡ fieldAt s at m * 2 ^ n + fieldAt s (at + m) n
+unfolding fieldAt
+fieldAt-add s at m n = ap value (bits-add s m at n) ∙ value-two (bits s at m) (bits s (at + m) n) n (length-bits s (at + m) n)
+
+pub fieldAt-cut : (s : List ℕ) (at k n m : ℕ) → fieldAt s (at + k) n ≡ fieldAt s at (k + n + m) / 2 ^ m % 2 ^ n
+unfolding fieldAt
+fieldAt-cut s at k n m =
+    sym (field-bits s at (k + n + m) k n (omega arith)) ∙ field-value (bits s at (k + n + m)) k n m (length-bits s at (k + n + m))
+
+pub fieldAt-one : (s : List ℕ) (at : ℕ) → fieldAt s at 1 ≡ one (bitAt s at)
+unfolding fieldAt value valueFrom bits
+fieldAt-one s at = omega arith
+
+-- what a record of w bits has set at k, its bytes have set at at + k
+pub flag-bits : (s : List ℕ) (at w k : ℕ) → k < w → flag (bits s at w) k ≡ bitAt s (at + k)
+unfolding flag
+flag-bits s at w k h = ap (λ (n : ℕ). eqb n 1) (field-bits s at w k 1 (omega arith) ∙ fieldAt-one s (at + k)) ∙ one-is (bitAt s (at + k))

@@ -4,7 +4,7 @@ use mathlib.Core.List.{List, [], _∷_, map}
 use Prim.Native.Nat.{ℕ}
 use native.Mathlib.Omega.{arith}
 use lib.ListN.{getD}
-use Rattle.standard.specs.Told.{Told, refused, told, toldOr}
+use Rattle.standard.specs.Told.{Told, refused, told, toldOr, verdictOf}
 use Rattle.standard.specs.Refusals.{numberOf, refuse, toldVerdict, toldHeader, SlotSaid, lacking, refusedBy, counted, toldOutcome, SlotTold, toldSlot, Answers}
 use Rattle.standard.specs.declared.Refusal.{Refusal}
 use Rattle.standard.specs.declared.Refusal.the-variants.{UnfitMemory, MadeUpRecord, AbsentBytes, NoSync, ReservedVersion, ReservedLayer, OtherLayer, FreeBitrate, ForbiddenRate, ReservedEmphasis, TooManyPairs, ForbiddenBlock, MixedBlock, ShortReservoir, MissingBits, FactorOverrun, LostShare, RegionOverrun, PairOverrun, NoCodeword}
@@ -58,7 +58,7 @@ same-refusal : {A : Type 0} (r q : Refusal) → _≡_ {A = Told A} (refuse r) (r
 unfolding number
 same-refusal r q e = one-number r q (ap number e)
 
-apart : {A B : Type 0} {k : ℕ} {a : A} → refused k ≡ told a → B
+pub apart : {A B : Type 0} {k : ℕ} {a : A} → refused k ≡ told a → B
 apart e = let z : _≡_ {A = ℕ} 0 1 = cc in let w : ⊥ = omega arith in absurd w
 
 pub one-verdict : (v w : Verdict) → toldVerdict v ≡ toldVerdict w → v ≡ w
@@ -109,3 +109,29 @@ one-list f g (a ∷ l) (b ∷ m) e =
 -- a verdict with its value
 pub one-answer : {A : Type 0} {blank : A} {v w : Verdict} {a b : A} {t : Told A} → Answers blank v a t → Answers blank w b t → (v ≡ w) × (a ≡ b)
 one-answer {A} {blank} {v} {w} p q = (one-verdict v w (p .verdict ∙ sym (q .verdict)), p .value ∙ sym (q .value))
+
+-- the two ways to answer
+pub answers-refused : {A : Type 0} {blank : A} {r : Refusal} {t : Told A} → t ≡ refuse r → Answers blank (Refused r) blank t
+unfolding verdictOf toldOr
+answers-refused {A} {blank} e = record { verdict = sym (ap verdictOf e); value = sym (ap (toldOr blank) e) }
+
+pub answers-told : {A : Type 0} {blank a : A} {t : Told A} → t ≡ told a → Answers blank Accepted a t
+unfolding verdictOf toldOr
+answers-told {A} {blank} e = record { verdict = sym (ap verdictOf e); value = sym (ap (toldOr blank) e) }
+
+-- and what was read, by the verdict
+pub answered-told : {A : Type 0} {blank a : A} {v : Verdict} {t : Told A} → Answers blank v a t → v ≡ Accepted → t ≡ told a
+unfolding verdictOf toldOr
+answered-told {A} {blank} {a} {v} {t} r e = go t (sym (r .verdict) ∙ ap toldVerdict e) (r .value)
+  where
+    go : (t : Told A) → verdictOf t ≡ told tt → a ≡ toldOr blank t → t ≡ told a
+    go (refused k) p q = apart p
+    go (told x) p q = ap told (sym q)
+
+pub answered-refused : {A : Type 0} {blank a : A} {v : Verdict} {r : Refusal} {t : Told A} → Answers blank v a t → v ≡ Refused r → t ≡ refuse r
+unfolding verdictOf number
+answered-refused {A} {r = r} {t} q e = go t (sym (q .verdict) ∙ ap toldVerdict e)
+  where
+    go : (t : Told A) → verdictOf t ≡ refuse r → t ≡ refuse r
+    go (refused k) p = ap refused (ap number p)
+    go (told x) p = apart (sym p)

@@ -1,0 +1,6 @@
+pub mod Cuts
+pub mod Fields
+pub mod Loops
+pub mod Sides
+pub mod Gains
+pub mod Tests

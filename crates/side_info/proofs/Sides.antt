@@ -1,0 +1,123 @@
+-- A frame's side information by its layout: where its parts stand among the frame's bits, and what the slots' records decide.
+use mathlib.Core.Path.{_≡_, refl, sym, ap, _∙_}
+use mathlib.Core.Bool.{Bool, true, false}
+use mathlib.Core.List.{List, _++_}
+use Prim.Native.Nat.{ℕ, _+_, _-_, _*_, _≤_, _<_}
+use native.Mathlib.Omega.{arith}
+use borrow.Author.Tests.{lt-ltb, le-ltb}
+use lib.ListN.{length, take, drop, replicate}
+use Rattle.standard.specs.Told.{Told, refused, told, verdictOf}
+use Rattle.standard.specs.ToldLaws.{picked, passed}
+use Rattle.standard.specs.Refusals.{numberOf, refuse, toldVerdict}
+use Rattle.standard.specs.RefusalsLaws.{apart}
+use Rattle.standard.specs.Bits.{bits, field, fieldAt}
+use Rattle.standard.specs.BitsLaws.{one-le, drop-bits, take-bits, field-bits}
+use Rattle.standard.specs.Header.{isHeader, isMpeg1, isTwo, headerSize, sideBytes}
+use Rattle.standard.specs.Record.{recordWidth}
+use Rattle.standard.specs.SideInfo.{beginWidth, sharesAt, shareCount, slotCount, recordsOf, thenSide, sideIn, sideFrom, sideOf}
+use Rattle.standard.specs.declared.FrameHeader.{FrameHeader}
+use Rattle.standard.specs.declared.SlotRecord.{SlotRecord}
+use Rattle.standard.specs.declared.Refusal.{Refusal}
+use Rattle.standard.specs.declared.Refusal.the-variants.{AbsentBytes, MadeUpRecord}
+use Rattle.standard.specs.declared.Verdict.{Verdict}
+use Rattle.standard.specs.declared.Verdict.the-variants.{Accepted, Refused}
+use Rattle.side_info.specs.declared.layout.Layout.{Layout}
+use Rattle.side_info.specs.Layouts.{layoutOf}
+use Rattle.side_info.specs.Parts.{Holds}
+
+-- ---- the layout
+-- main_data_begin, what is skipped, the sharing bits and the records are all
+full : (mpeg1 two : Bool) → sharesAt mpeg1 two + shareCount mpeg1 two + slotCount mpeg1 two * recordWidth mpeg1 ≡ 8 * sideBytes mpeg1 two
+full true true = refl
+full true false = refl
+full false true = refl
+full false false = refl
+
+-- ---- what the records decide
+module _ (mpeg1 two : Bool) (b : List Bool) {v : Verdict} {slots : List SlotRecord} where
+  side-none : (t : Told (List SlotRecord)) {r : Refusal} → Holds (slotCount mpeg1 two) v slots t → v ≡ Refused r → thenSide mpeg1 two b t ≡ refuse r
+  unfolding thenSide verdictOf
+  side-none (refused k) {r} h e =
+      let p : _≡_ {A = Told (Unit {0})} (refused k) (refuse r) = sym (h .verdict) ∙ ap toldVerdict e in
+      let q : k ≡ numberOf r = cc in
+      ap refused q
+  side-none (told rs) {r} h e =
+      let p : _≡_ {A = Told (Unit {0})} (told tt) (refuse r) = sym (h .verdict) ∙ ap toldVerdict e in
+      apart (sym p)
+
+  side-all : (t : Told (List SlotRecord)) → Holds (slotCount mpeg1 two) v slots t → v ≡ Accepted → thenSide mpeg1 two b t ≡ told (record { begin = field b 0 (beginWidth mpeg1); shares = take (shareCount mpeg1 two) (drop (sharesAt mpeg1 two) b) ++ replicate (8 - shareCount mpeg1 two) false; slots = slots })
+  unfolding thenSide verdictOf
+  side-all (refused k) h e =
+      let p : _≡_ {A = Told (Unit {0})} (refused k) (told tt) = sym (h .verdict) ∙ ap toldVerdict e in
+      apart p
+  side-all (told rs) h e = λ j. told (record { begin = field b 0 (beginWidth mpeg1); shares = take (shareCount mpeg1 two) (drop (sharesAt mpeg1 two) b) ++ replicate (8 - shareCount mpeg1 two) false; slots = sym (h .held rs refl) j })
+
+-- ---- where the parts stand
+module _ (mpeg1 two : Bool) (s : List ℕ) (at : ℕ) where
+  abbrev b : List Bool
+  b = bits s at (8 * sideBytes mpeg1 two)
+
+  abbrev n : ℕ
+  n = slotCount mpeg1 two
+
+  abbrev p : ℕ
+  p = sharesAt mpeg1 two
+
+  abbrev m : ℕ
+  m = shareCount mpeg1 two
+
+  records-there : recordsOf mpeg1 n (drop (p + m) b) ≡ recordsOf mpeg1 n (bits s (at + p + m) (n * recordWidth mpeg1))
+  records-there =
+      let q : at + (p + m) ≡ at + p + m = omega arith in
+      let r : 8 * sideBytes mpeg1 two - (p + m) ≡ n * recordWidth mpeg1 = omega (arith, full mpeg1 two) in
+      ap (recordsOf mpeg1 n) (drop-bits (p + m) s at (8 * sideBytes mpeg1 two) ∙ (λ j. bits s (q j) (r j)))
+
+  shares-there : take m (drop p b) ≡ bits s (at + p) m
+  shares-there = ap (take m) (drop-bits p s at (8 * sideBytes mpeg1 two)) ∙ take-bits m s (at + p) (8 * sideBytes mpeg1 two - p) (omega (arith, full mpeg1 two))
+
+  begin-there : field b 0 (beginWidth mpeg1) ≡ fieldAt s at (beginWidth mpeg1)
+  begin-there =
+      let q : at + 0 ≡ at = omega arith in
+      field-bits s at (8 * sideBytes mpeg1 two) 0 (beginWidth mpeg1) (omega (arith, full mpeg1 two)) ∙ ap (λ (a : ℕ). fieldAt s a (beginWidth mpeg1)) q
+
+  module _ {v : Verdict} {slots : List SlotRecord} where
+    holds-there : {l : Layout} → l ≡ layoutOf mpeg1 two → Holds (l .slots) v slots (recordsOf mpeg1 (l .slots) (bits s (at + l .prefix + l .shares) (l .slots * recordWidth mpeg1))) → Holds n v slots (recordsOf mpeg1 n (drop (p + m) b))
+    holds-there e h = rw records-there (rw e at h)
+
+    pub side-refused : {l : Layout} {r : Refusal} → l ≡ layoutOf mpeg1 two → Holds (l .slots) v slots (recordsOf mpeg1 (l .slots) (bits s (at + l .prefix + l .shares) (l .slots * recordWidth mpeg1))) → v ≡ Refused r → sideIn mpeg1 two (bits s at (8 * sideBytes mpeg1 two)) ≡ refuse r
+    unfolding sideIn
+    side-refused e h f = side-none mpeg1 two b (recordsOf mpeg1 n (drop (p + m) b)) (holds-there e h) f
+
+    pub side-told : {l : Layout} → l ≡ layoutOf mpeg1 two → Holds (l .slots) v slots (recordsOf mpeg1 (l .slots) (bits s (at + l .prefix + l .shares) (l .slots * recordWidth mpeg1))) → v ≡ Accepted → sideIn mpeg1 two (bits s at (8 * sideBytes mpeg1 two)) ≡ told (record { begin = fieldAt s at (l .begin); shares = bits s (at + l .prefix) (l .shares) ++ replicate (8 - l .shares) false; slots = slots })
+    unfolding sideIn
+    side-told {l} e h f =
+        side-all mpeg1 two b (recordsOf mpeg1 n (drop (p + m) b)) (holds-there e h) f
+        ∙ (λ j. told (record { begin = begin-there j; shares = shares-there j ++ replicate (8 - m) false; slots = slots }))
+        ∙ ap (λ (k : Layout). told (record { begin = fieldAt s at (k .begin); shares = bits s (at + k .prefix) (k .shares) ++ replicate (8 - k .shares) false; slots = slots })) (sym e)
+
+-- ---- from the frame's bytes
+module _ (mpeg1 two : Bool) (from : ℕ) (s : List ℕ) {l : Layout} (e : l ≡ layoutOf mpeg1 two) where
+  size-is : from + l .size ≡ from + sideBytes mpeg1 two
+  size-is = ap (λ (k : Layout). from + k .size) e
+
+  pub side-short : length s < from + l .size → sideFrom mpeg1 two from s ≡ refuse AbsentBytes
+  unfolding sideFrom
+  side-short h = picked _ (lt-ltb (length s) (from + sideBytes mpeg1 two) (rw size-is at h))
+
+  pub side-whole : from + l .size ≤ length s → sideFrom mpeg1 two from s ≡ sideIn mpeg1 two (bits s (8 * from) (8 * sideBytes mpeg1 two))
+  unfolding sideFrom
+  side-whole h = passed _ (le-ltb (length s) (from + sideBytes mpeg1 two) (rw size-is at h))
+
+-- ---- under a header
+pub header-small : (h : FrameHeader) {n : ℕ} → n ≡ headerSize h → n ≤ 8
+unfolding headerSize
+header-small h e = omega (arith, one-le (h .crc))
+
+module _ (h : FrameHeader) (s : List ℕ) {b : Bool} (e : b ≡ isHeader h) where
+  pub side-made-up : b ≡ false → sideOf h s ≡ refuse MadeUpRecord
+  unfolding sideOf
+  side-made-up f = passed _ (sym e ∙ f)
+
+  pub side-under : {from : ℕ} {mpeg1 two : Bool} → b ≡ true → from ≡ headerSize h → mpeg1 ≡ isMpeg1 (h .version) → two ≡ isTwo (h .channels) → sideOf h s ≡ sideFrom mpeg1 two from s
+  unfolding sideOf
+  side-under f p q r = picked _ (sym e ∙ f) ∙ (λ j. sideFrom (sym q j) (sym r j) (sym p j) s)

@@ -1,0 +1,3 @@
+-- What the helpers' contracts say beside the definition.
+pub mod Parts
+pub mod Layouts

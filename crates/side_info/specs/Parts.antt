@@ -1,0 +1,39 @@
+-- A slot's record in the parts that are read one by one: what every record has, and the 23 bits of its window, from the flag on.
+use mathlib.Core.Path.{_≡_}
+use mathlib.Core.Bool.{Bool}
+use mathlib.Core.List.{List, _++_}
+use Prim.Native.Nat.{ℕ, _+_, _-_}
+use lib.ListN.{replicate}
+use Rattle.standard.specs.Told.{Told, told, verdictOf}
+use Rattle.standard.specs.Refusals.{toldVerdict}
+use Rattle.standard.specs.Bits.{bits, field, fieldAt, flag}
+use Rattle.standard.specs.Record.{absent, compressWidth, recordWidth, preflagOf, scaleAt, count1At}
+use Rattle.standard.specs.declared.SlotRecord.{SlotRecord}
+use Rattle.standard.specs.declared.Verdict.{Verdict}
+use Rattle.side_info.specs.declared.record.Common.{Common}
+
+unfoldable pub commonOf : Bool → List Bool → Common
+commonOf mpeg1 b =
+    record {
+      length = field b 0 12;
+      pairs = field b 12 9;
+      gain = field b 21 8;
+      compress = field b 29 (compressWidth mpeg1);
+      preflag = preflagOf mpeg1 b;
+      scale = flag b (scaleAt mpeg1);
+      count1 = flag b (count1At mpeg1);
+    }
+
+-- the bits of a record, from a place of the bytes s on
+abbrev pub recordBits : Bool → List ℕ → ℕ → List Bool
+recordBits mpeg1 s at = bits s at (recordWidth mpeg1)
+
+-- the parts of the record at a place
+pub record PartsAt (mpeg1 : Bool) (s : List ℕ) (at : ℕ) (k : Common) (w : ℕ) : Type 0 where
+  pub common : k ≡ commonOf mpeg1 (recordBits mpeg1 s at)
+  pub window : w ≡ fieldAt s (at + 29 + compressWidth mpeg1) 23
+
+-- four slots hold n records that were read, and then lacking ones; where a record was refused, nothing is said of them
+pub record Holds (n : ℕ) (v : Verdict) (slots : List SlotRecord) (t : Told (List SlotRecord)) : Type 0 where
+  pub verdict : toldVerdict v ≡ verdictOf t
+  pub held : (rs : List SlotRecord) → t ≡ told rs → slots ≡ rs ++ replicate (4 - n) absent

@@ -1,0 +1,256 @@
+// A slot's record, read from its bits in two parts: what every record has (k), and the 23 bits of its window, from the flag on (w).
+// Only scalefac_compress and what comes after the window differ between the versions.
+use crate::words::word;
+use bits::bit;
+use standard::BlockType;
+use standard::Refusal;
+use standard::SlotRecord;
+use standard::Verdict;
+ghost use mathlib.Core.Path.{_≡_};
+ghost use mathlib.Core.Bool.{Bool};
+ghost use mathlib.Core.List.{List};
+ghost use Prim.Native.Nat.{ℕ, _+_, _≤_, _<_};
+ghost use Rattle.standard.specs.Told.{Told};
+ghost use Rattle.standard.specs.Bits.{field};
+ghost use Rattle.standard.specs.Refusals.{refuse, Answers};
+ghost use Rattle.standard.specs.Record.{absent, blockOf, compressWidth, recordWidth, longOf, switchedOf, recordOf, preflagOf, region0Of, region1Of};
+ghost use Rattle.side_info.specs.Parts.{commonOf, recordBits, PartsAt};
+
+// What every record has, whatever its window.
+pub(crate) struct Common {
+    pub length: u16,
+    pub pairs: u16,
+    pub gain: u8,
+    pub compress: u16,
+    pub preflag: bool,
+    pub scale: bool,
+    pub count1: bool,
+}
+
+// A record, or a refusal and the record of a slot that the frame lacks.
+pub(crate) struct RecordAnswer {
+    pub verdict: Verdict,
+    pub slot: SlotRecord,
+}
+
+// The width of scalefac_compress.
+pub(crate) fn compress_width(mpeg1: bool) -> usize
+    ensures { λ r. ⌜ r ≡ compressWidth mpeg1 ⌝ }
+{
+    if mpeg1 {
+        return 4;
+    }
+    9
+}
+
+pub(crate) fn record_width(mpeg1: bool) -> usize
+    ensures { λ r. ⌜ r ≡ recordWidth mpeg1 ⌝ }
+{
+    if mpeg1 {
+        return 59;
+    }
+    63
+}
+
+// block_type
+pub(crate) fn block_of(t: u64) -> BlockType
+    requires { ⌜ t < 4 ⌝ }
+    ensures { λ r. ⌜ r ≡ blockOf t ⌝ }
+{
+    match t {
+        0 => BlockType::Long,
+        1 => BlockType::Start,
+        2 => BlockType::Short,
+        _ => BlockType::End,
+    }
+}
+
+// The region counts that a switched block is given.
+pub(crate) fn first_region(k: BlockType) -> u8
+    ensures { λ r. ⌜ r ≡ region0Of k ⌝ }
+{
+    match k {
+        BlockType::Long => 7,
+        BlockType::Start => 7,
+        BlockType::Short => 8,
+        BlockType::End => 7,
+    }
+}
+
+pub(crate) fn second_region(k: BlockType) -> u8
+    ensures { λ r. ⌜ r ≡ region1Of k ⌝ }
+{
+    match k {
+        BlockType::Long => 13,
+        BlockType::Start => 13,
+        BlockType::Short => 12,
+        BlockType::End => 13,
+    }
+}
+
+// The record of a window that is not switched.
+pub(crate) fn long_record(k: Common, w: u64) -> SlotRecord
+    ensures { λ r. ⌜ ((mpeg1 : Bool) (s : List ℕ) (at : ℕ) → PartsAt mpeg1 s at k w
+        → r ≡ longOf mpeg1 (compressWidth mpeg1) (recordBits mpeg1 s at)) ⌝ }
+{
+    let gains = [0.0f32, 0.0f32, 0.0f32];
+    let tables = [
+        ((w >> 17) % 32) as u8,
+        ((w >> 12) % 32) as u8,
+        ((w >> 7) % 32) as u8,
+    ];
+    SlotRecord {
+        length: k.length,
+        pairs: k.pairs,
+        gain: k.gain,
+        compress: k.compress,
+        block: BlockType::Long,
+        gains,
+        tables,
+        region0: ((w >> 3) % 16) as u8,
+        region1: (w % 8) as u8,
+        preflag: k.preflag,
+        scale: k.scale,
+        count1: k.count1,
+    }
+}
+
+// The record of a switched window, of a block type that is not 0.
+pub(crate) fn switched_record(k: Common, w: u64, block: BlockType) -> SlotRecord
+    ensures { λ r. ⌜ ((mpeg1 : Bool) (s : List ℕ) (at : ℕ) → PartsAt mpeg1 s at k w
+        → r ≡ switchedOf mpeg1 (compressWidth mpeg1) block (recordBits mpeg1 s at)) ⌝ }
+{
+    let gains = [
+        ((w >> 6) % 8) as u8 as f32,
+        ((w >> 3) % 8) as u8 as f32,
+        (w % 8) as u8 as f32,
+    ];
+    let tables = [((w >> 14) % 32) as u8, ((w >> 9) % 32) as u8, 0];
+    let region0 = first_region(block);
+    let region1 = second_region(block);
+    SlotRecord {
+        length: k.length,
+        pairs: k.pairs,
+        gain: k.gain,
+        compress: k.compress,
+        block,
+        gains,
+        tables,
+        region0,
+        region1,
+        preflag: k.preflag,
+        scale: k.scale,
+        count1: k.count1,
+    }
+}
+
+// The record of a slot that the frame lacks.
+pub(crate) fn absent_record() -> SlotRecord
+    ensures { λ r. ⌜ r ≡ absent ⌝ }
+{
+    let gains = [0.0f32, 0.0f32, 0.0f32];
+    let tables = [0u8, 0u8, 0u8];
+    SlotRecord {
+        length: 0,
+        pairs: 0,
+        gain: 0,
+        compress: 0,
+        block: BlockType::Long,
+        gains,
+        tables,
+        region0: 0,
+        region1: 0,
+        preflag: false,
+        scale: false,
+        count1: false,
+    }
+}
+
+// A refusal beside the record that says nothing.
+pub(crate) fn refused_record(why: Refusal) -> RecordAnswer
+    ensures { λ r. ⌜ ((t : Told SlotRecord) → t ≡ refuse why → Answers absent (r .verdict) (r .slot) t) ⌝ }
+{
+    let slot = absent_record();
+    RecordAnswer {
+        verdict: Verdict::Refused(why),
+        slot,
+    }
+}
+
+// A record from its parts, or the first of its faults.
+pub(crate) fn record_from(k: Common, w: u64) -> RecordAnswer
+    ensures { λ r. ⌜ ((mpeg1 : Bool) (s : List ℕ) (at : ℕ) → PartsAt mpeg1 s at k w
+        → Answers absent (r .verdict) (r .slot) (recordOf mpeg1 (recordBits mpeg1 s at))) ⌝ }
+{
+    if 288 < k.pairs {
+        return refused_record(Refusal::TooManyPairs);
+    }
+    let switched = (w >> 22) % 2;
+    if switched != 1 {
+        let slot = long_record(k, w);
+        return RecordAnswer {
+            verdict: Verdict::Accepted,
+            slot,
+        };
+    }
+    let t = (w >> 20) % 4;
+    if t == 0 {
+        return refused_record(Refusal::ForbiddenBlock);
+    }
+    let mixed = (w >> 19) % 2;
+    if mixed == 1 {
+        return refused_record(Refusal::MixedBlock);
+    }
+    let block = block_of(t);
+    let slot = switched_record(k, w, block);
+    RecordAnswer {
+        verdict: Verdict::Accepted,
+        slot,
+    }
+}
+
+// Read in MPEG-1 only; else it goes by scalefac_compress.
+pub(crate) fn read_preflag(s: &[u8], at: usize, mpeg1: bool, compress: u16) -> bool
+    requires { ⌜ at ≤ 1024 ⌝ }
+    ensures { λ r. ⌜ (compress ≡ field (recordBits mpeg1 (now (s .entry)) at) 29 (compressWidth mpeg1)
+        → r ≡ preflagOf mpeg1 (recordBits mpeg1 (now (s .entry)) at)) ⌝ }
+{
+    if !mpeg1 {
+        return 500 <= compress;
+    }
+    bit(s, at + 56)
+}
+
+// What every record has, of the one whose bits start at a place.
+pub(crate) fn read_common(s: &[u8], at: usize, mpeg1: bool) -> Common
+    requires { ⌜ at ≤ 1024 ⌝ }
+    ensures { λ r. ⌜ r ≡ commonOf mpeg1 (recordBits mpeg1 (now (s .entry)) at) ⌝ }
+{
+    let head = word(s, at, 29);
+    let c = compress_width(mpeg1);
+    let compress = word(s, at + 29, c) as u16;
+    let preflag = read_preflag(s, at, mpeg1, compress);
+    let end = at + record_width(mpeg1);
+    let scale = bit(s, end - 2);
+    let count1 = bit(s, end - 1);
+    Common {
+        length: ((head >> 17) % 4096) as u16,
+        pairs: ((head >> 8) % 512) as u16,
+        gain: (head % 256) as u8,
+        compress,
+        preflag,
+        scale,
+        count1,
+    }
+}
+
+// The record whose bits start at a place.
+pub(crate) fn read_record(s: &[u8], at: usize, mpeg1: bool) -> RecordAnswer
+    requires { ⌜ at ≤ 1024 ⌝ }
+    ensures { λ r. ⌜ Answers absent (r .verdict) (r .slot) (recordOf mpeg1 (recordBits mpeg1 (now (s .entry)) at)) ⌝ }
+{
+    let k = read_common(s, at, mpeg1);
+    let c = compress_width(mpeg1);
+    let w = word(s, at + 29 + c, 23);
+    record_from(k, w)
+}

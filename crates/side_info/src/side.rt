@@ -1,0 +1,89 @@
+// A frame's side information from its bits. Places are small here: no sum of them wraps.
+use crate::layout::layout_of;
+use crate::record::absent_record;
+use crate::records::read_records;
+use crate::words::word;
+use bits::bit;
+use standard::Refusal;
+use standard::SideInfo;
+use standard::SideInfoAnswer;
+use standard::Verdict;
+ghost use mathlib.Core.Path.{_≡_};
+ghost use mathlib.Core.Bool.{false};
+ghost use mathlib.Core.List.{_++_};
+ghost use Prim.Native.Nat.{_-_, _*_, _≤_};
+ghost use lib.ListN.{replicate};
+ghost use Rattle.standard.specs.Told.{Told};
+ghost use Rattle.standard.specs.Refusals.{refuse, Answers};
+ghost use Rattle.standard.specs.Bits.{bits};
+ghost use Rattle.standard.specs.Header.{sideBytes};
+ghost use Rattle.standard.specs.SideInfo.{noSide, sideIn, sideFrom};
+
+// A refusal beside blank side information.
+pub(crate) fn no_side(why: Refusal) -> SideInfoAnswer
+    ensures { λ r. ⌜ ((t : Told SideInfo) → t ≡ refuse why → Answers noSide (r .verdict) (r .info) t) ⌝ }
+{
+    let a = absent_record();
+    let slots = [a; 4];
+    let shares = [false; 8];
+    let info = SideInfo {
+        begin: 0,
+        shares,
+        slots,
+    };
+    SideInfoAnswer {
+        verdict: Verdict::Refused(why),
+        info,
+    }
+}
+
+// n sharing bits from a place on, and false for the rest of the eight.
+pub(crate) fn read_shares(s: &[u8], at: usize, n: usize) -> [bool; 8]
+    requires { ⌜ (at ≤ 1024) × (n ≤ 8) ⌝ }
+    ensures { λ r. ⌜ r ≡ (bits (now (s .entry)) at n ++ replicate (8 - n) false) ⌝ }
+{
+    let mut shares = [false; 8];
+    let mut i: usize = 0;
+    while i < n {
+        let x = bit(s, at + i);
+        shares[i] = x;
+        i += 1;
+    }
+    shares
+}
+
+// The side information whose bits start at a place.
+pub(crate) fn read_bits(s: &[u8], at: usize, mpeg1: bool, two: bool) -> SideInfoAnswer
+    requires { ⌜ at ≤ 64 ⌝ }
+    ensures { λ r. ⌜ Answers noSide (r .verdict) (r .info) (sideIn mpeg1 two (bits (now (s .entry)) at (8 * sideBytes mpeg1 two))) ⌝ }
+{
+    let l = layout_of(mpeg1, two);
+    let x = read_records(s, at + l.prefix + l.shares, l.slots, mpeg1);
+    let v = x.verdict;
+    match v {
+        Verdict::Refused(why) => no_side(why),
+        Verdict::Accepted => {
+            let begin = word(s, at, l.begin) as u16;
+            let shares = read_shares(s, at + l.prefix, l.shares);
+            let slots = x.slots;
+            let info = SideInfo {
+                begin,
+                shares,
+                slots,
+            };
+            SideInfoAnswer { verdict: v, info }
+        }
+    }
+}
+
+// The side information after a header of so many bytes.
+pub(crate) fn read_after(frame: &[u8], from: usize, mpeg1: bool, two: bool) -> SideInfoAnswer
+    requires { ⌜ from ≤ 8 ⌝ }
+    ensures { λ r. ⌜ Answers noSide (r .verdict) (r .info) (sideFrom mpeg1 two from (now (frame .entry))) ⌝ }
+{
+    let l = layout_of(mpeg1, two);
+    if frame.len() < from + l.size {
+        return no_side(Refusal::AbsentBytes);
+    }
+    read_bits(frame, 8 * from, mpeg1, two)
+}
