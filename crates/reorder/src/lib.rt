@@ -1,12 +1,21 @@
 // The short-block reorder: window by window before it, frequency by frequency after it.
+use header::is_header;
+use side_info::is_record;
+use standard::BlockType;
+use standard::FrameHeader;
+use standard::Refusal;
 use standard::SampleRate;
+use standard::SlotRecord;
+use standard::Verdict;
 use tables::bands::short_start;
 ghost use mathlib.Core.Path.{_≡_};
 ghost use mathlib.Core.List.{_++_};
 ghost use Prim.Native.Nat.{_+_, _*_, _≤_};
 ghost use lib.ListN.{length, take, drop, set};
 ghost use lib.Seq.{paste};
-ghost use Rattle.standard.specs.Reorder.{orderOf, gathered};
+ghost use Rattle.standard.specs.Refusals.{Answers};
+ghost use Rattle.standard.specs.Record.{isShort};
+ghost use Rattle.standard.specs.Reorder.{orderOf, gathered, reorderOf};
 ghost use Rattle.standard.specs.ReorderLaws.{bandNumbers};
 
 // Three numbers from a place on.
@@ -66,4 +75,35 @@ fn reorder_short(rate: SampleRate, numbers: &mut [i32])
         reorder_band(&old, &mut *numbers, 3 * b, c - b);
         k += 1;
     }
+}
+
+fn is_short(b: BlockType) -> bool
+    ensures { λ r. ⌜ r ≡ isShort b ⌝ }
+{
+    match b {
+        BlockType::Long => false,
+        BlockType::Start => false,
+        BlockType::Short => true,
+        BlockType::End => false,
+    }
+}
+
+// The 576 numbers of a slot after its record: a short slot's in their new order, any other's as they are. Numbers past them stay.
+pub fn reorder(h: FrameHeader, r: SlotRecord, numbers: &mut [i32]) -> Verdict
+    ensures { λ v. ⌜ Answers (now (numbers .entry)) v (now (numbers .exit)) (reorderOf h r (now (numbers .entry))) ⌝ }
+{
+    if numbers.len() < 576 {
+        return Verdict::Refused(Refusal::UnfitMemory);
+    }
+    if is_header(h) {
+        if is_record(h, r) {
+            let b = r.block;
+            if is_short(b) {
+                let rate = h.rate;
+                reorder_short(rate, numbers);
+            }
+            return Verdict::Accepted;
+        }
+    }
+    Verdict::Refused(Refusal::MadeUpRecord)
 }

@@ -5,7 +5,7 @@ use mathlib.Core.List.{List, [], _∷_, _++_, append-nil}
 use Prim.Native.Nat.{ℕ, zero, suc, _+_, _-_, _*_, _≤_, _<_}
 use native.Mathlib.Numerals.{add-one}
 use native.Mathlib.Omega.{arith}
-use borrow.Author.Tests.{leb-true, eqb-true}
+use borrow.Author.Tests.{leb-true, eqb-true, lt-ltb, le-ltb}
 use lib.Dec.{leb, eqb}
 use lib.IntN.{ℤ, pos}
 use lib.ListN.{length, getD, take, drop, take-append-drop, drop-of-length-le}
@@ -13,9 +13,16 @@ use lib.Seq.{drop-cons, drop-drop, drop-at, take-at}
 use Rattle.standard.specs.Bands.{rowOf, shortRows, shortStart}
 use Rattle.standard.specs.BandsLaws.{row-lt, short-within, short-past}
 use Rattle.standard.specs.RowsLaws.{every, every-in, rows-long}
-use Rattle.standard.specs.ToldLaws.{never, both-of}
-use Rattle.standard.specs.Reorder.{bandOrder, orderFrom, orderOf, gathered}
+use Rattle.standard.specs.Told.{told}
+use Rattle.standard.specs.ToldLaws.{never, both-of, both, picked, passed}
+use Rattle.standard.specs.Refusals.{refuse}
+use Rattle.standard.specs.Header.{isMpeg1, isHeader}
+use Rattle.standard.specs.Record.{isShort, isRecord}
+use Rattle.standard.specs.Reorder.{bandOrder, orderFrom, orderOf, gathered, reordered, reorderOf}
 use Rattle.standard.specs.declared.SampleRate.{SampleRate}
+use Rattle.standard.specs.declared.FrameHeader.{FrameHeader}
+use Rattle.standard.specs.declared.SlotRecord.{SlotRecord}
+use Rattle.standard.specs.declared.Refusal.the-variants.{UnfitMemory, MadeUpRecord}
 
 gathered-append : (is js : List ℕ) (d : List ℤ) → gathered (is ++ js) d ≡ gathered is d ++ gathered js d
 unfolding gathered
@@ -224,3 +231,27 @@ module _ (r : SampleRate) where
       let e : 3 * shortStart r 13 ≡ 576 = omega (arith, short-last) in
       let none : drop 576 l ≡ [] = ap (λ (n : ℕ). drop n l) (sym e) ∙ order-at 13 d (omega arith) ∙ order-end d in
       sym (append-nil (take 576 l)) ∙ ap (λ (x : List ℤ). take 576 l ++ x) (sym none) ∙ take-append-drop 576 l
+
+-- ---- what the call comes to
+module _ (h : FrameHeader) (r : SlotRecord) (d : List ℤ) where
+  pub few-numbers : length d < 576 → reorderOf h r d ≡ refuse UnfitMemory
+  unfolding reorderOf
+  few-numbers k = picked _ (lt-ltb (length d) 576 k)
+
+  module _ (k : 576 ≤ length d) where
+    pub made-up : isHeader h && isRecord (isMpeg1 (h .version)) r ≡ false → reorderOf h r d ≡ refuse MadeUpRecord
+    unfolding reorderOf
+    made-up e = passed _ (le-ltb (length d) 576 k) ∙ passed _ e
+
+    accepted : isHeader h ≡ true → isRecord (isMpeg1 (h .version)) r ≡ true → reorderOf h r d ≡ told (reordered (h .rate) r d)
+    unfolding reorderOf
+    accepted e f = passed _ (le-ltb (length d) 576 k) ∙ picked _ (both e f)
+
+    pub short-in-order : isHeader h ≡ true → isRecord (isMpeg1 (h .version)) r ≡ true → isShort (r .block) ≡ true
+        → reorderOf h r d ≡ told (gathered (orderOf (h .rate)) (take 576 d) ++ drop 576 d)
+    unfolding reordered
+    short-in-order e f s = accepted e f ∙ ap told (picked _ s)
+
+    pub others-stay : isHeader h ≡ true → isRecord (isMpeg1 (h .version)) r ≡ true → isShort (r .block) ≡ false → reorderOf h r d ≡ told d
+    unfolding reordered
+    others-stay e f s = accepted e f ∙ ap told (passed _ s)
