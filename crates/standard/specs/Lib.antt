@@ -33,6 +33,7 @@ pub mod RecordBits
 pub mod SideBytes
 pub mod SideLaws
 pub mod NumbersLaws
+pub mod FactorsLaws
 pub mod SharingLaws
 pub mod SlotsLaws
 pub mod CopyLaws

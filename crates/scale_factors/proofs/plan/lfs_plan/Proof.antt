@@ -1,0 +1,20 @@
+-- `scale_factors::plan::lfs_plan` meets its contract: counts and lengths are the definition's, and nothing is shared.
+-- Assumes nothing.
+use Rattle.standard.specs.FactorsLaws.{countsOf, lengthsOf, sharedOf}
+use Rattle.scale_factors.specs.Groups.{planIn}
+use borrow.Author.Needs.{needs}
+use Rattle.scale_factors.proofs.plan.lfs_plan.Statement.{statement}
+use Rattle.scale_factors.proofs.plan.lfs_plan.Tie as tie
+
+lfs-counts-requires : tie.Need-lfs-counts-requires
+lfs-counts-requires c κs = search needs
+
+lfs-lengths-requires : tie.Need-lfs-lengths-requires
+lfs-lengths-requires c κs = search needs
+
+returns : tie.Need-returns
+unfolding planIn countsOf lengthsOf sharedOf
+returns c = cc
+
+pub lfs-plan-spec : {M : Type 1} → statement M
+lfs-plan-spec = tie.close (tie.spec lfs-counts-requires lfs-lengths-requires returns)
