@@ -2,17 +2,17 @@
 use mathlib.Core.Path.{_≡_, refl, sym, ap, _∙_}
 use mathlib.Core.Bool.{Bool, true, false, _||_}
 use mathlib.Core.List.{List, [], _∷_}
-use Prim.Native.Nat.{ℕ, suc, _+_, _-_, _*_, _≤_, _<_}
+use Prim.Native.Nat.{ℕ, zero, suc, _+_, _-_, _*_, _≤_, _<_}
 use native.Mathlib.Numerals.{add-one}
 use native.Mathlib.Omega.{arith}
 use borrow.Author.Tests.{ltb-false}
 use lib.Dec.{ltb}
 use lib.ListN.{length, getD, take, drop}
-use lib.Seq.{drop-cons}
-use Rattle.standard.specs.ToldLaws.{neither-of, picked, passed}
+use lib.Seq.{drop-cons, take-all}
+use Rattle.standard.specs.ToldLaws.{never, either-left, either-right, neither-of, picked, passed}
 use Rattle.standard.specs.Header.{granulesIn, channelsIn, isMpeg1, isTwo, granules, channelCount}
 use Rattle.standard.specs.Record.{isShort}
-use Rattle.standard.specs.Slots.{sharesOf}
+use Rattle.standard.specs.Slots.{anyOf, sharesOf}
 use Rattle.standard.specs.declared.FrameHeader.{FrameHeader}
 use Rattle.standard.specs.declared.SideInfo.{SideInfo}
 use Rattle.standard.specs.declared.SlotRecord.{SlotRecord}
@@ -68,3 +68,17 @@ module _ (h : FrameHeader) (i : SideInfo) (n : ℕ) (r : SlotRecord) (c : ℕ) (
       four-from (i .shares) (4 * (n - c)) (omega arith)
       ∙ ap (λ (m : ℕ). take 4 (drop (4 * (n - m)) (i .shares))) e
       ∙ sym (passed _ (test ∙ t))
+
+-- ---- whether any of four is set
+pub any-set : (l : List Bool) (k : ℕ) → getD l k false ≡ true → anyOf l ≡ true
+unfolding anyOf
+any-set [] k e = never e
+any-set (x ∷ l) zero e = either-left (anyOf l) e
+any-set (x ∷ l) (suc k) e = either-right x (any-set l k e)
+
+pub none-of-four : (l : List Bool) → length l ≡ 4 → getD l 0 false ≡ false → getD l 1 false ≡ false → getD l 2 false ≡ false → getD l 3 false ≡ false
+    → anyOf l ≡ false
+unfolding anyOf
+none-of-four l n a b c d =
+    ap anyOf (sym (four-from l 0 (omega arith) ∙ take-all 4 l (omega arith)))
+    ∙ (λ j. a j || (b j || (c j || (d j || false))))

@@ -35,20 +35,20 @@ same-length : tie.Need-same-length
 same-length c = search needs
 
 returns-2 : tie.Need-returns-2
-returns-2 c = 
+returns-2 c =
     let header = sym (c .before .before .before .before .before .before .before .before .is-header .ensures) ∙ c .before .before .before .before .before .before .before .if2 .taken in
     let slot = sym (c .before .before .before .before .before .before .is-record .ensures) ∙ c .before .before .before .before .before .if3 .taken in
     let short = sym (c .before .before .before .before .is-short .ensures) ∙ c .before .before .before .if4 .taken in
     rw (c .before .reorder-short .ensures) (answers-told (short-in-order _ _ _ (c .before .before .before .before .before .before .before .before .before .if1 .left) header slot short))
 
 returns-3 : tie.Need-returns-3
-returns-3 c = 
+returns-3 c =
     let header = sym (c .before .before .before .before .before .is-header .ensures) ∙ c .before .before .before .before .if2 .taken in
     let slot = sym (c .before .before .before .is-record .ensures) ∙ c .before .before .if3 .taken in
     answers-told (others-stay _ _ _ (c .before .before .before .before .before .before .if1 .left) header slot (sym (c .before .is-short .ensures) ∙ c .if4 .left))
 
 returns-4 : tie.Need-returns-4
-returns-4 c = 
+returns-4 c =
     let a = c .before .before .before .before .before .args in
     let header = sym (c .before .before .before .is-header .ensures) ∙ c .before .before .if2 .taken in
     let slot = sym (c .before .is-record .ensures) ∙ c .if3 .left in
@@ -56,7 +56,7 @@ returns-4 c =
     (made-up _ _ _ (c .before .before .before .before .if1 .left) (ap (λ (x : Bool). x && isRecord (isMpeg1 (a .h .version)) (a .r)) header ∙ slot))
 
 returns-5 : tie.Need-returns-5
-returns-5 c = 
+returns-5 c =
     let a = c .before .before .before .args in
     let header = sym (c .before .is-header .ensures) ∙ c .if2 .left in
     answers-refused (made-up _ _ _ (c .before .before .if1 .left) (ap (λ (x : Bool). x && isRecord (isMpeg1 (a .h .version)) (a .r)) header))
