@@ -11,16 +11,15 @@ use lib.ListN.{length, take, drop, set, length-append}
 use lib.Seq.{sets, sets-eq, length-sets, length-take-le, take-at, drop-at, drop-drop}
 use Rattle.standard.specs.Bits.{window}
 use Rattle.standard.specs.BitsLaws.{window-drop}
-use Rattle.standard.specs.Numbers.{Numbers, halted, got, prepend, pairOf, quadOf, pairs, quads}
+use Rattle.standard.specs.Numbers.{Numbers, got, prepend, pairOf, quadOf, pairs, quads}
 use Rattle.standard.specs.NumbersLaws.{prepend-nil, prepend-prepend, pairs-none, pairs-two, quads-none, quads-dropped, quads-four}
 use Rattle.standard.specs.declared.Refusal.{Refusal}
 use Rattle.standard.specs.declared.Refusal.the-variants.{NoCodeword}
 use Rattle.standard.specs.declared.Pair.{Pair}
 use Rattle.standard.specs.declared.Pair.the-variants.{NoPair, Two}
-use Rattle.standard.specs.declared.Quad.{Quad}
 use Rattle.standard.specs.declared.Quad.the-variants.{Four, Dropped, NoQuad}
 use Rattle.tables.specs.Walk.{lookedUp}
-use Rattle.huffman.specs.Runs.{pairsSaid, PairsRead, Gave, Filled, Says, NumbersRead}
+use Rattle.huffman.specs.Runs.{pairsSaid, PairsRead, Says, NumbersRead}
 use Rattle.huffman.specs.declared.runs.Ended.the-variants.{At, Halted}
 use Rattle.huffman.specs.declared.HuffmanAnswer.the-variants.{Counted, Uncounted}
 use Rattle.huffman.proofs.Within.{pair-within, quad-within}

@@ -10,7 +10,7 @@ use lib.ListN.{length, take, drop, replicate, take-append-drop}
 use lib.Seq.{paste, length-take-le}
 use Rattle.standard.specs.Told.{told}
 use Rattle.standard.specs.Bits.{window}
-use Rattle.standard.specs.Numbers.{Numbers, halted, got, prepend, quadTable, regionsOf, tableAt, pairs, quads, thenRest, numbersBy, numbersOf, padded}
+use Rattle.standard.specs.Numbers.{Numbers, halted, prepend, quadTable, regionsOf, tableAt, pairs, quads, thenRest, numbersBy, numbersOf, padded}
 use Rattle.standard.specs.NumbersLaws.{numbers-none, numbers-some}
 use Rattle.standard.specs.declared.SampleRate.{SampleRate}
 use Rattle.standard.specs.declared.SlotRecord.{SlotRecord}
@@ -20,7 +20,7 @@ use Rattle.standard.specs.declared.Regions.{Regions}
 use Rattle.standard.specs.declared.Regions.the-variants.{Split, NoRegions}
 use Rattle.tables.specs.Walk.{lookedUp}
 use Rattle.huffman.specs.Slot.{countOf, numbersAfter}
-use Rattle.huffman.specs.Runs.{pairsSaid, PairsRead, Gave, Filled, Says, NumbersRead}
+use Rattle.huffman.specs.Runs.{pairsSaid, PairsRead, Filled, Says, NumbersRead}
 use Rattle.huffman.specs.declared.runs.Ended.{Ended}
 use Rattle.huffman.specs.declared.runs.Ended.the-variants.{At, Halted}
 use Rattle.huffman.specs.declared.HuffmanAnswer.{HuffmanAnswer}

@@ -1,6 +1,6 @@
 -- No two answers say the same; what a slot's numbers come to by how many numbers are lent and how many pairs its record has; and a refused slot
 -- leaves the lent numbers as they were.
-use mathlib.Core.Path.{_≡_, refl, sym, ap, _∙_}
+use mathlib.Core.Path.{_≡_, sym, ap, _∙_}
 use mathlib.Core.Bool.{Bool}
 use mathlib.Core.List.{List}
 use Prim.Native.Nat.{ℕ, _≤_, _<_}
@@ -8,11 +8,10 @@ use native.Mathlib.Omega.{arith}
 use borrow.Author.Tests.{lt-ltb, le-ltb}
 use lib.IntN.{ℤ}
 use lib.ListN.{length}
-use Rattle.standard.specs.Told.{Told}
 use Rattle.standard.specs.ToldLaws.{picked, passed}
 use Rattle.standard.specs.Refusals.{numberOf, refuse}
 use Rattle.standard.specs.RefusalsLaws.{one-number}
-use Rattle.standard.specs.Numbers.{Reader, Numbers, halted, got, numbersOf}
+use Rattle.standard.specs.Numbers.{Reader, Numbers, halted, numbersOf}
 use Rattle.standard.specs.declared.SampleRate.{SampleRate}
 use Rattle.standard.specs.declared.SlotRecord.{SlotRecord}
 use Rattle.standard.specs.declared.Refusal.{Refusal}

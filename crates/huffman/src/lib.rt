@@ -97,7 +97,9 @@ fn decode(
     out: &mut [i32; 576],
 ) -> HuffmanAnswer
     requires { ⌜ (r .pairs ≤ 288) × (length (now out) ≡ 576) ⌝ }
-    ensures { λ a. ⌜ NumbersRead (numbersOf (lookedUp (now (trees .entry))) rate r (window (now (s .entry)) at end)) 0 (now (out .entry)) (now (out .exit)) a ⌝ }
+    ensures { λ a. ⌜ NumbersRead
+        (numbersOf (lookedUp (now (trees .entry))) rate r (window (now (s .entry)) at end))
+        0 (now (out .entry)) (now (out .exit)) a ⌝ }
 {
     if end <= at {
         return HuffmanAnswer::Counted { count: 0 };
@@ -137,8 +139,10 @@ pub fn read_huffman(
     end: u32,
     numbers: &mut [i32],
 ) -> HuffmanAnswer
-    ensures { λ a. ⌜ toldCount a ≡ countOf (slotNumbers (lookedUp (now (trees .entry))) rate r (window (now (s .entry)) at end) (now (numbers .entry))) ⌝ }
-    ensures { λ _. ⌜ now (numbers .exit) ≡ numbersAfter (slotNumbers (lookedUp (now (trees .entry))) rate r (window (now (s .entry)) at end) (now (numbers .entry))) (now (numbers .entry)) ⌝ }
+    ensures { λ a. ⌜ toldCount a
+        ≡ countOf (slotNumbers (lookedUp (now (trees .entry))) rate r (window (now (s .entry)) at end) (now (numbers .entry))) ⌝ }
+    ensures { λ _. ⌜ now (numbers .exit)
+        ≡ numbersAfter (slotNumbers (lookedUp (now (trees .entry))) rate r (window (now (s .entry)) at end) (now (numbers .entry))) (now (numbers .entry)) ⌝ }
 {
     if numbers.len() < 576 {
         return HuffmanAnswer::Uncounted(Refusal::UnfitMemory);

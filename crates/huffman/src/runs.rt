@@ -45,7 +45,9 @@ pub(crate) fn read_pairs(
     out: &mut [i32; 576],
 ) -> Ended
     requires { ⌜ (n ≤ 288) × (length (now out) ≡ 576) ⌝ }
-    ensures { λ r. ⌜ PairsRead (pairs (lookedUp (now (trees .entry))) (tableAt first second tables) 0 n (window (now (s .entry)) start end)) n (now (s .entry)) end (now (out .entry)) (now (out .exit)) r ⌝ }
+    ensures { λ r. ⌜ PairsRead
+        (pairs (lookedUp (now (trees .entry))) (tableAt first second tables) 0 n (window (now (s .entry)) start end))
+        n (now (s .entry)) end (now (out .entry)) (now (out .exit)) r ⌝ }
 {
     let mut at = start;
     let mut i: usize = 0;
@@ -79,7 +81,9 @@ pub(crate) fn read_quads(
     out: &mut [i32; 576],
 ) -> HuffmanAnswer
     requires { ⌜ (from ≤ 576) × (length (now out) ≡ 576) ⌝ }
-    ensures { λ r. ⌜ NumbersRead (prepend (take from (now (out .entry))) (quads (lookedUp (now (trees .entry))) table ((576 - from) / 4) (window (now (s .entry)) start end))) from (now (out .entry)) (now (out .exit)) r ⌝ }
+    ensures { λ r. ⌜ NumbersRead
+        (prepend (take from (now (out .entry))) (quads (lookedUp (now (trees .entry))) table ((576 - from) / 4) (window (now (s .entry)) start end)))
+        from (now (out .entry)) (now (out .exit)) r ⌝ }
 {
     let mut at = start;
     let mut i = from;

@@ -22,7 +22,7 @@ fn left(at: usize, end: usize) -> usize
     0
 }
 
-// A value of a table's codeword with its escape, which only 15 has.
+// A value of a table's codeword with its escape. Only 15 has one, so its width is looked up only there.
 fn magnitude(s: &[u8], at: usize, end: usize, table: usize, value: u8) -> Magnitude
     ensures { λ r. ⌜ r ≡ magnitudeOf (escapeWidth table) value (window (now (s .entry)) at end) ⌝ }
 {

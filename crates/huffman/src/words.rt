@@ -36,7 +36,8 @@ pub(crate) fn pair(trees: &[u16], table: usize, s: &[u8], at: usize, end: usize)
 // The numbers of a quad whose codeword took `used` bits, from the place after it on.
 fn signs(s: &[u8], at: usize, end: usize, value: u8, used: usize) -> Quad
     requires { ⌜ used + (end - at) < 2 ^ 64 ⌝ }
-    ensures { λ r. ⌜ r ≡ quadFirst value used (window (now (s .entry)) at end) (twoOf 0 (value / 8 % 2) (value / 4 % 2) (window (now (s .entry)) at end)) ⌝ }
+    ensures { λ r. ⌜ r
+        ≡ quadFirst value used (window (now (s .entry)) at end) (twoOf 0 (value / 8 % 2) (value / 4 % 2) (window (now (s .entry)) at end)) ⌝ }
 {
     let Pair::Two {
         x: v,

@@ -9,11 +9,12 @@ use borrow.Author.Tests.{lt-ltb, le-ltb, eq-eqb, ne-eqb}
 use lib.Dec.{ltb, leb, eqb}
 use lib.Ieee.{binary32, ofBits, ofInt}
 use Rattle.standard.specs.Told.{told}
-use Rattle.standard.specs.ToldLaws.{picked, passed, never}
+use Rattle.standard.specs.ToldLaws.{picked, passed, never, no-refusal, told-is}
 use Rattle.standard.specs.Refusals.{refuse}
 use Rattle.standard.specs.Bits.{bitAt, bits, field, flag, fieldAt}
 use Rattle.standard.specs.BitsLaws.{field-bits, flag-bits, fieldAt-cut}
 use Rattle.standard.specs.Record.{gainOf, compressWidth, recordWidth, scaleAt, count1At, preflagOf, blockOf, longOf, switchedOf, recordIn, recordOf}
+use Rattle.standard.specs.declared.SlotRecord.{SlotRecord}
 use Rattle.standard.specs.declared.Refusal.the-variants.{TooManyPairs, ForbiddenBlock, MixedBlock}
 use Rattle.side_info.specs.declared.record.Common.{Common}
 use Rattle.side_info.specs.Parts.{commonOf, recordBits, PartsAt}
@@ -125,3 +126,15 @@ module _ {mpeg1 : Bool} {s : List ℕ} {at : ℕ} {k : Common} {w : ℕ} (e : Pa
       says-switched l m =
           passed _ (few h) ∙ passed _ (ap not (set 0 22 refl i)) ∙ passed _ (other l) ∙ passed _ (unset 3 19 refl m)
           ∙ ap (λ (t : ℕ). told (switchedOf mpeg1 c (blockOf t) b)) (sym (window-cut 1 2 20 refl))
+
+  -- ---- the record, where it has no fault
+  pub long-is : {a : SlotRecord} → (w / 2 ^ 22 % 2 ≡ 1 → ⊥) → recordOf mpeg1 (recordBits mpeg1 s at) ≡ told a → longOf mpeg1 (compressWidth mpeg1) (recordBits mpeg1 s at) ≡ a
+  unfolding recordOf recordIn
+  long-is {a} i f = told-is (sym (picked _ (ap not (unset 0 22 refl i))) ∙ no-refusal _ _ _ a f .1)
+
+  pub switched-is : {a : SlotRecord} → w / 2 ^ 22 % 2 ≡ 1 → recordOf mpeg1 (recordBits mpeg1 s at) ≡ told a → switchedOf mpeg1 (compressWidth mpeg1) (blockOf (w / 2 ^ 20 % 4)) (recordBits mpeg1 s at) ≡ a
+  unfolding recordOf recordIn
+  switched-is {a} i f =
+      let g = sym (passed _ (ap not (set 0 22 refl i))) ∙ no-refusal _ _ _ a f .1 in
+      let h = no-refusal _ _ _ a (no-refusal _ _ _ a g .1) .1 in
+      ap (λ (t : ℕ). switchedOf mpeg1 c (blockOf t) b) (window-cut 1 2 20 refl) ∙ told-is h

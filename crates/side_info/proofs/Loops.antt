@@ -7,10 +7,7 @@ use native.Mathlib.Nat.{sub-zero, suc-mul}
 use native.Mathlib.Omega.{arith}
 use lib.ListN.{length, set, replicate, length-append}
 use lib.Seq.{set-at}
-use Rattle.standard.specs.Told.{Told, refused, told, verdictOf}
-use Rattle.standard.specs.ToldLaws.{told-is}
-use Rattle.standard.specs.Refusals.{refuse, toldVerdict, Answers}
-use Rattle.standard.specs.RefusalsLaws.{apart, answered-told, answered-refused}
+use Rattle.standard.specs.Told.{Told, refused, told}
 use Rattle.standard.specs.Bits.{bitAt, bits}
 use Rattle.standard.specs.BitsLaws.{length-bits, drop-bits, take-bits, bits-add}
 use Rattle.standard.specs.Record.{absent, recordWidth, recordOf}
@@ -19,7 +16,8 @@ use Rattle.standard.specs.declared.SlotRecord.{SlotRecord}
 use Rattle.standard.specs.declared.Refusal.{Refusal}
 use Rattle.standard.specs.declared.Verdict.{Verdict}
 use Rattle.standard.specs.declared.Verdict.the-variants.{Accepted, Refused}
-use Rattle.side_info.specs.Parts.{recordBits, Holds}
+use Rattle.side_info.specs.Parts.{recordBits, Gives, filled}
+use Rattle.side_info.proofs.Given.{gives-none, gives-told, given-none, given-told}
 use Rattle.side_info.proofs.Fields.{width}
 
 -- one more is stored in an array of n places
@@ -59,20 +57,6 @@ unfolding after thenRecords
 after-one done r (refused k) = refl
 after-one done r (told rs) = ap told (sym (append-assoc done (r ∷ []) rs))
 
-holds-none : {n : ℕ} {v : Verdict} {slots : List SlotRecord} {t : Told (List SlotRecord)} {r : Refusal} → v ≡ Refused r → t ≡ refuse r → Holds n v slots t
-unfolding verdictOf
-holds-none e f = record {
-  verdict = ap toldVerdict e ∙ sym (ap verdictOf f);
-  held = λ rs g. apart (sym f ∙ g);
-}
-
-holds-all : {n : ℕ} {slots rs : List SlotRecord} {t : Told (List SlotRecord)} → t ≡ told rs → slots ≡ rs ++ replicate (4 - n) absent → Holds n Accepted slots t
-unfolding verdictOf
-holds-all {n} e f = record {
-  verdict = sym (ap verdictOf e);
-  held = λ qs g. f ∙ ap (λ (l : List SlotRecord). l ++ replicate (4 - n) absent) (told-is (sym e ∙ g));
-}
-
 pub record RecordsLoop (mpeg1 : Bool) (n : ℕ) (s : List ℕ) (start : ℕ) (slots : List SlotRecord) (at i : ℕ) : Type 0 where
   pub done : List SlotRecord
   pub some : i ≤ n
@@ -98,14 +82,14 @@ module _ {mpeg1 : Bool} {n : ℕ} {s : List ℕ} {start : ℕ} {slots : List Slo
       l .same ∙ ap (λ (k : ℕ). after (l .done) (rest mpeg1 s k at)) q ∙ ap (after (l .done)) (rest-step mpeg1 s (n - (i + 1)) at)
 
   -- a record is refused
-  pub records-stop : {v : Verdict} {x : SlotRecord} {r : Refusal} → Answers absent v x (recordOf mpeg1 (recordBits mpeg1 s at)) → v ≡ Refused r → i < n → Holds n v slots (recordsOf mpeg1 n (bits s start (n * recordWidth mpeg1)))
+  pub records-stop : {v : Verdict} {x : SlotRecord} {r : Refusal} → Gives v x (recordOf mpeg1 (recordBits mpeg1 s at)) → v ≡ Refused r → i < n → Gives v slots (filled n (recordsOf mpeg1 n (bits s start (n * recordWidth mpeg1))))
   unfolding after thenRecords
   records-stop {v} {x} {r} a e h =
-      holds-none e
-      (one-more h ∙ ap (λ (t : Told SlotRecord). after (l .done) (thenRecords t (rest mpeg1 s (n - (i + 1)) (at + recordWidth mpeg1)))) (answered-refused a e))
+      gives-none e
+      (ap (filled n) (one-more h ∙ ap (λ (t : Told SlotRecord). after (l .done) (thenRecords t (rest mpeg1 s (n - (i + 1)) (at + recordWidth mpeg1)))) (given-none a e)))
 
   -- or read
-  pub records-turn : {v : Verdict} {x : SlotRecord} {w : ℕ} → Answers absent v x (recordOf mpeg1 (recordBits mpeg1 s at)) → v ≡ Accepted → w ≡ recordWidth mpeg1 → i < n → n ≤ 4 → RecordsLoop mpeg1 n s start (set slots i x) (at + w) (i + 1)
+  pub records-turn : {v : Verdict} {x : SlotRecord} {w : ℕ} → Gives v x (recordOf mpeg1 (recordBits mpeg1 s at)) → v ≡ Accepted → w ≡ recordWidth mpeg1 → i < n → n ≤ 4 → RecordsLoop mpeg1 n s start (set slots i x) (at + w) (i + 1)
   records-turn {v} {x} {w} a e f h m = record {
     done = l .done ++ x ∷ [];
     some = omega arith;
@@ -114,19 +98,19 @@ module _ {mpeg1 : Bool} {n : ℕ} {s : List ℕ} {start : ℕ} {slots : List Slo
     held = stored 4 i absent x (l .done) (l .count) (omega arith) (l .held);
     same =
         one-more h
-        ∙ ap (λ (t : Told SlotRecord). after (l .done) (thenRecords t (rest mpeg1 s (n - (i + 1)) (at + recordWidth mpeg1)))) (answered-told a e)
+        ∙ ap (λ (t : Told SlotRecord). after (l .done) (thenRecords t (rest mpeg1 s (n - (i + 1)) (at + recordWidth mpeg1)))) (given-told a e)
         ∙ after-one (l .done) x (rest mpeg1 s (n - (i + 1)) (at + recordWidth mpeg1))
         ∙ ap (λ (k : ℕ). after (l .done ++ x ∷ []) (rest mpeg1 s (n - (i + 1)) (at + k))) (sym f);
   }
 
-  pub records-end : n ≤ i → Holds n Accepted slots (recordsOf mpeg1 n (bits s start (n * recordWidth mpeg1)))
+  pub records-end : n ≤ i → Gives Accepted slots (filled n (recordsOf mpeg1 n (bits s start (n * recordWidth mpeg1))))
   unfolding after recordsOf
   records-end h =
       let q : n - i ≡ 0 = omega arith in
       let p : i ≡ n = omega (arith, l .some) in
-      holds-all
-      (l .same ∙ ap (λ (k : ℕ). after (l .done) (rest mpeg1 s k at)) q ∙ ap told (append-nil (l .done)))
-      (l .held ∙ ap (λ (k : ℕ). l .done ++ replicate (4 - k) absent) p)
+      gives-told refl
+      (ap (filled n) (l .same ∙ ap (λ (k : ℕ). after (l .done) (rest mpeg1 s k at)) q ∙ ap told (append-nil (l .done)))
+      ∙ sym (ap told (l .held ∙ ap (λ (k : ℕ). l .done ++ replicate (4 - k) absent) p)))
 
 -- ---- sharing bits
 pub record SharesLoop (s : List ℕ) (at n : ℕ) (shares : List Bool) (i : ℕ) : Type 0 where

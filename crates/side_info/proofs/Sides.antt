@@ -6,9 +6,9 @@ use Prim.Native.Nat.{ℕ, _+_, _-_, _*_, _≤_, _<_}
 use native.Mathlib.Omega.{arith}
 use borrow.Author.Tests.{lt-ltb, le-ltb}
 use lib.ListN.{length, take, drop, replicate}
-use Rattle.standard.specs.Told.{Told, refused, told, verdictOf}
-use Rattle.standard.specs.ToldLaws.{picked, passed}
-use Rattle.standard.specs.Refusals.{numberOf, refuse, toldVerdict}
+use Rattle.standard.specs.Told.{Told, refused, told}
+use Rattle.standard.specs.ToldLaws.{picked, passed, told-is}
+use Rattle.standard.specs.Refusals.{refuse}
 use Rattle.standard.specs.RefusalsLaws.{apart}
 use Rattle.standard.specs.Bits.{bits, field, fieldAt}
 use Rattle.standard.specs.BitsLaws.{one-le, drop-bits, take-bits, field-bits}
@@ -23,7 +23,8 @@ use Rattle.standard.specs.declared.Verdict.{Verdict}
 use Rattle.standard.specs.declared.Verdict.the-variants.{Accepted, Refused}
 use Rattle.side_info.specs.declared.layout.Layout.{Layout}
 use Rattle.side_info.specs.Layouts.{layoutOf}
-use Rattle.side_info.specs.Parts.{Holds}
+use Rattle.side_info.specs.Parts.{Gives, filled}
+use Rattle.side_info.proofs.Given.{same-refusal, given-none, given-told}
 
 -- ---- the layout
 -- main_data_begin, what is skipped, the sharing bits and the records are all
@@ -34,23 +35,16 @@ full false true = refl
 full false false = refl
 
 -- ---- what the records decide
-module _ (mpeg1 two : Bool) (b : List Bool) {v : Verdict} {slots : List SlotRecord} where
-  side-none : (t : Told (List SlotRecord)) {r : Refusal} → Holds (slotCount mpeg1 two) v slots t → v ≡ Refused r → thenSide mpeg1 two b t ≡ refuse r
-  unfolding thenSide verdictOf
-  side-none (refused k) {r} h e =
-      let p : _≡_ {A = Told (Unit {0})} (refused k) (refuse r) = sym (h .verdict) ∙ ap toldVerdict e in
-      let q : k ≡ numberOf r = cc in
-      ap refused q
-  side-none (told rs) {r} h e =
-      let p : _≡_ {A = Told (Unit {0})} (told tt) (refuse r) = sym (h .verdict) ∙ ap toldVerdict e in
-      apart (sym p)
+module _ (mpeg1 two : Bool) (b : List Bool) where
+  side-none : {k : ℕ} (t : Told (List SlotRecord)) → filled (slotCount mpeg1 two) t ≡ refused k → thenSide mpeg1 two b t ≡ refused k
+  unfolding thenSide
+  side-none (refused k) e = same-refusal e
+  side-none (told rs) e = apart (sym e)
 
-  side-all : (t : Told (List SlotRecord)) → Holds (slotCount mpeg1 two) v slots t → v ≡ Accepted → thenSide mpeg1 two b t ≡ told (record { begin = field b 0 (beginWidth mpeg1); shares = take (shareCount mpeg1 two) (drop (sharesAt mpeg1 two) b) ++ replicate (8 - shareCount mpeg1 two) false; slots = slots })
-  unfolding thenSide verdictOf
-  side-all (refused k) h e =
-      let p : _≡_ {A = Told (Unit {0})} (refused k) (told tt) = sym (h .verdict) ∙ ap toldVerdict e in
-      apart p
-  side-all (told rs) h e = λ j. told (record { begin = field b 0 (beginWidth mpeg1); shares = take (shareCount mpeg1 two) (drop (sharesAt mpeg1 two) b) ++ replicate (8 - shareCount mpeg1 two) false; slots = sym (h .held rs refl) j })
+  side-all : {slots : List SlotRecord} (t : Told (List SlotRecord)) → filled (slotCount mpeg1 two) t ≡ told slots → thenSide mpeg1 two b t ≡ told (record { begin = field b 0 (beginWidth mpeg1); shares = take (shareCount mpeg1 two) (drop (sharesAt mpeg1 two) b) ++ replicate (8 - shareCount mpeg1 two) false; slots = slots })
+  unfolding thenSide
+  side-all {slots} (refused k) e = apart e
+  side-all {slots} (told rs) e = λ j. told (record { begin = field b 0 (beginWidth mpeg1); shares = take (shareCount mpeg1 two) (drop (sharesAt mpeg1 two) b) ++ replicate (8 - shareCount mpeg1 two) false; slots = told-is e j })
 
 -- ---- where the parts stand
 module _ (mpeg1 two : Bool) (s : List ℕ) (at : ℕ) where
@@ -81,17 +75,17 @@ module _ (mpeg1 two : Bool) (s : List ℕ) (at : ℕ) where
       field-bits s at (8 * sideBytes mpeg1 two) 0 (beginWidth mpeg1) (omega (arith, full mpeg1 two)) ∙ ap (λ (a : ℕ). fieldAt s a (beginWidth mpeg1)) q
 
   module _ {v : Verdict} {slots : List SlotRecord} where
-    holds-there : {l : Layout} → l ≡ layoutOf mpeg1 two → Holds (l .slots) v slots (recordsOf mpeg1 (l .slots) (bits s (at + l .prefix + l .shares) (l .slots * recordWidth mpeg1))) → Holds n v slots (recordsOf mpeg1 n (drop (p + m) b))
-    holds-there e h = rw records-there (rw e at h)
+    given-there : {l : Layout} → l ≡ layoutOf mpeg1 two → Gives v slots (filled (l .slots) (recordsOf mpeg1 (l .slots) (bits s (at + l .prefix + l .shares) (l .slots * recordWidth mpeg1)))) → Gives v slots (filled n (recordsOf mpeg1 n (drop (p + m) b)))
+    given-there e h = rw records-there (rw e at h)
 
-    pub side-refused : {l : Layout} {r : Refusal} → l ≡ layoutOf mpeg1 two → Holds (l .slots) v slots (recordsOf mpeg1 (l .slots) (bits s (at + l .prefix + l .shares) (l .slots * recordWidth mpeg1))) → v ≡ Refused r → sideIn mpeg1 two (bits s at (8 * sideBytes mpeg1 two)) ≡ refuse r
+    pub side-refused : {l : Layout} {r : Refusal} → l ≡ layoutOf mpeg1 two → Gives v slots (filled (l .slots) (recordsOf mpeg1 (l .slots) (bits s (at + l .prefix + l .shares) (l .slots * recordWidth mpeg1)))) → v ≡ Refused r → sideIn mpeg1 two (bits s at (8 * sideBytes mpeg1 two)) ≡ refuse r
     unfolding sideIn
-    side-refused e h f = side-none mpeg1 two b (recordsOf mpeg1 n (drop (p + m) b)) (holds-there e h) f
+    side-refused e h f = side-none mpeg1 two b (recordsOf mpeg1 n (drop (p + m) b)) (given-none (given-there e h) f)
 
-    pub side-told : {l : Layout} → l ≡ layoutOf mpeg1 two → Holds (l .slots) v slots (recordsOf mpeg1 (l .slots) (bits s (at + l .prefix + l .shares) (l .slots * recordWidth mpeg1))) → v ≡ Accepted → sideIn mpeg1 two (bits s at (8 * sideBytes mpeg1 two)) ≡ told (record { begin = fieldAt s at (l .begin); shares = bits s (at + l .prefix) (l .shares) ++ replicate (8 - l .shares) false; slots = slots })
+    pub side-told : {l : Layout} → l ≡ layoutOf mpeg1 two → Gives v slots (filled (l .slots) (recordsOf mpeg1 (l .slots) (bits s (at + l .prefix + l .shares) (l .slots * recordWidth mpeg1)))) → v ≡ Accepted → sideIn mpeg1 two (bits s at (8 * sideBytes mpeg1 two)) ≡ told (record { begin = fieldAt s at (l .begin); shares = bits s (at + l .prefix) (l .shares) ++ replicate (8 - l .shares) false; slots = slots })
     unfolding sideIn
     side-told {l} e h f =
-        side-all mpeg1 two b (recordsOf mpeg1 n (drop (p + m) b)) (holds-there e h) f
+        side-all mpeg1 two b (recordsOf mpeg1 n (drop (p + m) b)) (given-told (given-there e h) f)
         ∙ (λ j. told (record { begin = begin-there j; shares = shares-there j ++ replicate (8 - m) false; slots = slots }))
         ∙ ap (λ (k : Layout). told (record { begin = fieldAt s at (k .begin); shares = bits s (at + k .prefix) (k .shares) ++ replicate (8 - k .shares) false; slots = slots })) (sym e)
 

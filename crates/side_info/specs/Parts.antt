@@ -4,7 +4,7 @@ use mathlib.Core.Bool.{Bool}
 use mathlib.Core.List.{List, _++_}
 use Prim.Native.Nat.{ℕ, _+_, _-_}
 use lib.ListN.{replicate}
-use Rattle.standard.specs.Told.{Told, told, verdictOf}
+use Rattle.standard.specs.Told.{Told, refused, told, verdictOf}
 use Rattle.standard.specs.Refusals.{toldVerdict}
 use Rattle.standard.specs.Bits.{bits, field, fieldAt, flag}
 use Rattle.standard.specs.Record.{absent, compressWidth, recordWidth, preflagOf, scaleAt, count1At}
@@ -33,7 +33,12 @@ pub record PartsAt (mpeg1 : Bool) (s : List ℕ) (at : ℕ) (k : Common) (w : �
   pub common : k ≡ commonOf mpeg1 (recordBits mpeg1 s at)
   pub window : w ≡ fieldAt s (at + 29 + compressWidth mpeg1) 23
 
--- four slots hold n records that were read, and then lacking ones; where a record was refused, nothing is said of them
-pub record Holds (n : ℕ) (v : Verdict) (slots : List SlotRecord) (t : Told (List SlotRecord)) : Type 0 where
+-- a verdict and a value beside it give a reading: the value is what was read, and where it was refused nothing is said of it
+pub record Gives {A : Type 0} (v : Verdict) (a : A) (t : Told A) : Type 0 where
   pub verdict : toldVerdict v ≡ verdictOf t
-  pub held : (rs : List SlotRecord) → t ≡ told rs → slots ≡ rs ++ replicate (4 - n) absent
+  pub value : (x : A) → t ≡ told x → a ≡ x
+
+-- the records of n slots among four, the rest lacking
+abbrev pub filled : ℕ → Told (List SlotRecord) → Told (List SlotRecord)
+filled n (refused k) = refused k
+filled n (told rs) = told (rs ++ replicate (4 - n) absent)

@@ -10,11 +10,11 @@ ghost use mathlib.Core.Path.{_≡_};
 ghost use mathlib.Core.Bool.{Bool};
 ghost use mathlib.Core.List.{List};
 ghost use Prim.Native.Nat.{ℕ, _+_, _≤_, _<_};
-ghost use Rattle.standard.specs.Told.{Told};
+ghost use Rattle.standard.specs.Told.{told, verdictOf};
 ghost use Rattle.standard.specs.Bits.{field};
-ghost use Rattle.standard.specs.Refusals.{refuse, Answers};
+ghost use Rattle.standard.specs.Refusals.{toldVerdict};
 ghost use Rattle.standard.specs.Record.{absent, blockOf, compressWidth, recordWidth, longOf, switchedOf, recordOf, preflagOf, region0Of, region1Of};
-ghost use Rattle.side_info.specs.Parts.{commonOf, recordBits, PartsAt};
+ghost use Rattle.side_info.specs.Parts.{commonOf, recordBits, PartsAt, Gives};
 
 // What every record has, whatever its window.
 pub(crate) struct Common {
@@ -27,7 +27,7 @@ pub(crate) struct Common {
     pub count1: bool,
 }
 
-// A record, or a refusal and the record of a slot that the frame lacks.
+// A record; of a refused one, what stands in the slot says nothing.
 pub(crate) struct RecordAnswer {
     pub verdict: Verdict,
     pub slot: SlotRecord,
@@ -166,47 +166,40 @@ pub(crate) fn absent_record() -> SlotRecord
     }
 }
 
-// A refusal beside the record that says nothing.
-pub(crate) fn refused_record(why: Refusal) -> RecordAnswer
-    ensures { λ r. ⌜ ((t : Told SlotRecord) → t ≡ refuse why → Answers absent (r .verdict) (r .slot) t) ⌝ }
+// The first fault of a record, if it has one.
+pub(crate) fn verdict_of(pairs: u16, w: u64) -> Verdict
+    ensures { λ r. ⌜ ((mpeg1 : Bool) (s : List ℕ) (at : ℕ) (k : Common) → PartsAt mpeg1 s at k w → pairs ≡ k .pairs
+        → toldVerdict r ≡ verdictOf (recordOf mpeg1 (recordBits mpeg1 s at))) ⌝ }
 {
-    let slot = absent_record();
-    RecordAnswer {
-        verdict: Verdict::Refused(why),
-        slot,
-    }
-}
-
-// A record from its parts, or the first of its faults.
-pub(crate) fn record_from(k: Common, w: u64) -> RecordAnswer
-    ensures { λ r. ⌜ ((mpeg1 : Bool) (s : List ℕ) (at : ℕ) → PartsAt mpeg1 s at k w
-        → Answers absent (r .verdict) (r .slot) (recordOf mpeg1 (recordBits mpeg1 s at))) ⌝ }
-{
-    if 288 < k.pairs {
-        return refused_record(Refusal::TooManyPairs);
+    if 288 < pairs {
+        return Verdict::Refused(Refusal::TooManyPairs);
     }
     let switched = (w >> 22) % 2;
     if switched != 1 {
-        let slot = long_record(k, w);
-        return RecordAnswer {
-            verdict: Verdict::Accepted,
-            slot,
-        };
+        return Verdict::Accepted;
     }
     let t = (w >> 20) % 4;
     if t == 0 {
-        return refused_record(Refusal::ForbiddenBlock);
+        return Verdict::Refused(Refusal::ForbiddenBlock);
     }
     let mixed = (w >> 19) % 2;
     if mixed == 1 {
-        return refused_record(Refusal::MixedBlock);
+        return Verdict::Refused(Refusal::MixedBlock);
     }
-    let block = block_of(t);
-    let slot = switched_record(k, w, block);
-    RecordAnswer {
-        verdict: Verdict::Accepted,
-        slot,
+    Verdict::Accepted
+}
+
+// The record, where it has no fault.
+pub(crate) fn slot_of(k: Common, w: u64) -> SlotRecord
+    ensures { λ r. ⌜ ((mpeg1 : Bool) (s : List ℕ) (at : ℕ) (a : SlotRecord) → PartsAt mpeg1 s at k w
+        → recordOf mpeg1 (recordBits mpeg1 s at) ≡ told a → r ≡ a) ⌝ }
+{
+    let switched = (w >> 22) % 2;
+    if switched != 1 {
+        return long_record(k, w);
     }
+    let block = block_of((w >> 20) % 4);
+    switched_record(k, w, block)
 }
 
 // Read in MPEG-1 only; else it goes by scalefac_compress.
@@ -247,10 +240,12 @@ pub(crate) fn read_common(s: &[u8], at: usize, mpeg1: bool) -> Common
 // The record whose bits start at a place.
 pub(crate) fn read_record(s: &[u8], at: usize, mpeg1: bool) -> RecordAnswer
     requires { ⌜ at ≤ 1024 ⌝ }
-    ensures { λ r. ⌜ Answers absent (r .verdict) (r .slot) (recordOf mpeg1 (recordBits mpeg1 (now (s .entry)) at)) ⌝ }
+    ensures { λ r. ⌜ Gives (r .verdict) (r .slot) (recordOf mpeg1 (recordBits mpeg1 (now (s .entry)) at)) ⌝ }
 {
     let k = read_common(s, at, mpeg1);
     let c = compress_width(mpeg1);
     let w = word(s, at + 29 + c, 23);
-    record_from(k, w)
+    let verdict = verdict_of(k.pairs, w);
+    let slot = slot_of(k, w);
+    RecordAnswer { verdict, slot }
 }

@@ -8,9 +8,9 @@ ghost use Prim.Native.Nat.{_*_, _≤_};
 ghost use Rattle.standard.specs.Bits.{bits};
 ghost use Rattle.standard.specs.Record.{recordWidth};
 ghost use Rattle.standard.specs.SideInfo.{recordsOf};
-ghost use Rattle.side_info.specs.Parts.{Holds};
+ghost use Rattle.side_info.specs.Parts.{Gives, filled};
 
-// Of refused records, what stands in the slots says nothing.
+// Records of slots, and of lacking ones; of refused records, what stands in the slots says nothing.
 pub(crate) struct RecordsAnswer {
     pub verdict: Verdict,
     pub slots: [SlotRecord; 4],
@@ -19,7 +19,7 @@ pub(crate) struct RecordsAnswer {
 // The first record that is refused decides.
 pub(crate) fn read_records(s: &[u8], start: usize, n: usize, mpeg1: bool) -> RecordsAnswer
     requires { ⌜ (start ≤ 128) × (n ≤ 4) ⌝ }
-    ensures { λ r. ⌜ Holds n (r .verdict) (r .slots) (recordsOf mpeg1 n (bits (now (s .entry)) start (n * recordWidth mpeg1))) ⌝ }
+    ensures { λ r. ⌜ Gives (r .verdict) (r .slots) (filled n (recordsOf mpeg1 n (bits (now (s .entry)) start (n * recordWidth mpeg1)))) ⌝ }
 {
     let w = record_width(mpeg1);
     let a = absent_record();

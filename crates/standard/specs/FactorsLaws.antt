@@ -116,6 +116,9 @@ unfoldable pub sharedOf : Bool → Bool → List Bool → List Bool
 sharedOf true short shares = pick short (replicate 4 false) shares
 sharedOf false short shares = replicate 4 false
 
+abbrev pub groupsOf : Bool → Bool → Bool → ℕ → List Bool → List Source
+groupsOf mpeg1 intensity short c shares = groupsFrom (countsOf mpeg1 intensity short c) (lengthsOf mpeg1 intensity short c) (sharedOf mpeg1 short shares) 0 4
+
 -- MPEG-2's two lists have four members each
 four : (l : List ℕ) → length l ≡ 4 → l ≡ getD l 0 0 ∷ getD l 1 0 ∷ getD l 2 0 ∷ getD l 3 0 ∷ []
 four [] e = absurd (omega arith)
@@ -147,19 +150,15 @@ low-groups : (ns ws : List ℕ) → length ns ≡ 4 → length ws ≡ 4 → lowP
 unfolding lowPlan group groupsFrom pick
 low-groups ns ws p q = λ j. lowPlan (four ns p j) (four ws q j)
 
--- every plan is its four groups
-abbrev Groups : Bool → Bool → Bool → ℕ → List Bool → List Source
-Groups mpeg1 intensity short c shares = groupsFrom (countsOf mpeg1 intensity short c) (lengthsOf mpeg1 intensity short c) (sharedOf mpeg1 short shares) 0 4
-
 mpeg1-groups : (intensity short : Bool) (c : ℕ) (shares : List Bool)
-    → pick short (shortPlan c) (longPlan c shares) ≡ Groups true intensity short c shares
+    → pick short (shortPlan c) (longPlan c shares) ≡ groupsOf true intensity short c shares
 unfolding pick shortPlan longPlan countsOf lengthsOf sharedOf group groupsFrom
 mpeg1-groups intensity true c shares = refl
 mpeg1-groups intensity false c shares = refl
 
+-- every plan is its four groups
 pub plan-groups : (mpeg1 intensity : Bool) (shares : List Bool) (r : SlotRecord)
-    → planOf mpeg1 intensity shares r
-    ≡ groupsFrom (countsOf mpeg1 intensity (isShort (r .block)) (r .compress)) (lengthsOf mpeg1 intensity (isShort (r .block)) (r .compress)) (sharedOf mpeg1 (isShort (r .block)) shares) 0 4
+    → planOf mpeg1 intensity shares r ≡ groupsOf mpeg1 intensity (isShort (r .block)) (r .compress) shares
 unfolding planOf countsOf lengthsOf sharedOf
 plan-groups true intensity shares r = mpeg1-groups intensity (isShort (r .block)) (r .compress) shares
 plan-groups false intensity shares r =

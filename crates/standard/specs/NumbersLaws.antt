@@ -1,21 +1,19 @@
 -- Laws of a slot's numbers, over any reader of codewords: what is read lies within the bits; a magnitude is at most 8,206, since an escape has
 -- at most 13 bits; a step of pairs and of quads; n pairs are 2 n numbers, and a slot has at most 576.
 use mathlib.Core.Path.{_≡_, refl, sym, ap, _∙_}
-use mathlib.Core.Bool.{Bool, true, false, _&&_, Bool·beq}
+use mathlib.Core.Bool.{Bool, true, false, Bool·beq}
 use mathlib.Core.List.{List, [], _∷_, _++_, append-assoc}
-use Prim.Native.Nat.{ℕ, zero, suc, _+_, _-_, _*_, _/_, _%_, _^_, _≤_, _<_}
-use native.Mathlib.Nat.{zero-sub}
+use Prim.Native.Nat.{ℕ, zero, suc, _+_, _-_, _*_, _/_, _%_, _≤_, _<_}
 use native.Mathlib.Omega.{arith}
 use borrow.Author.Tests.{le-leb, lt-leb, leb-true, ltb-true, eq-eqb, ne-eqb}
 use lib.Dec.{leb, ltb, eqb}
-use lib.IntN.{ℤ, pos, negsuc, natAbs}
-use lib.ListN.{length, getD, take, drop, replicate, length-append, length-drop, length-take}
+use lib.IntN.{ℤ, pos, natAbs}
+use lib.ListN.{length, getD, take, drop, length-append, length-drop, length-take}
 use lib.Pow.{pow-mono}
-use Rattle.standard.specs.Told.{pick}
 use Rattle.standard.specs.ToldLaws.{picked, passed, either-way, both, both-of, never}
 use Rattle.standard.specs.Bits.{window, value, fieldAt}
 use Rattle.standard.specs.BitsLaws.{window-nil, window-cons, window-length, take-bits, value-lt}
-use Rattle.standard.specs.RowsLaws.{every, every-at}
+use Rattle.standard.specs.RowsLaws.{every, every-at, every-append}
 use Rattle.standard.specs.Codes.{Entry, entry, lowBits, pair, quad, starts, first, begun, decode, silent, table1, table2, table3, table5, table6, table7, table8, table9, table10, table11, table12, table13, table15, table16, table24, tableA, tableB, codes, published, wordOf, escapes, escapeWidth}
 use Rattle.standard.specs.Numbers.{Reader, escaped, magnitudeOf, signOf, signed, further, thenSign, numberIn, twoLast, twoFirst, twoOf, pairAfter, pairWord, pairOf, quadLast, quadFirst, quadWord, quadOf, quadTable, regionsOf, tableAt, Numbers, halted, got, prepend, thenPairs, pairs, thenQuads, quads, thenRest, numbersBy, numbersOf}
 use Rattle.standard.specs.declared.SampleRate.{SampleRate}
@@ -271,11 +269,6 @@ AtMost n m = m ≤ n
 abbrev pub Gives : (ℕ → Type 0) → Numbers → Type 0
 Gives P (halted r) = Unit {0}
 Gives P (got vs b) = Bounded P vs
-
-every-append : {A : Type 0} (p : A → Bool) (xs ys : List A) → every p xs ≡ true → every p ys ≡ true → every p (xs ++ ys) ≡ true
-unfolding every
-every-append p [] ys f g = g
-every-append p (x ∷ xs) ys f g = let k = both-of (p x) (every p xs) f in both (k .0) (every-append p xs ys (k .1) g)
 
 gives-after : (P Q : ℕ → Type 0) (vs : List ℤ) → every small vs ≡ true → ((n : ℕ) → P n → Q (length vs + n)) → (q : Numbers) → Gives P q → Gives Q (prepend vs q)
 unfolding prepend

@@ -2,7 +2,7 @@
 -- both, and rows of one length.
 use mathlib.Core.Path.{_≡_, refl, ap, _∙_, sym, subst}
 use mathlib.Core.Bool.{Bool, true, false, _&&_, _||_}
-use mathlib.Core.List.{List, [], _∷_}
+use mathlib.Core.List.{List, [], _∷_, _++_}
 use Prim.Native.Nat.{ℕ, zero, suc, _<_}
 use native.Mathlib.Omega.{arith}
 use native.Mathlib.Decide.{decLt}
@@ -10,7 +10,7 @@ use borrow.Author.Tests.{lt-ltb, le-ltb, eqb-true}
 use lib.Dec.{ltb, eqb}
 use lib.ListN.{length, getD}
 use Rattle.standard.specs.Rows.{member, later, place}
-use Rattle.standard.specs.ToldLaws.{never, both-of}
+use Rattle.standard.specs.ToldLaws.{never, both, both-of}
 
 module _ {A : Type 0} (same : A → A → Bool) where
   -- what a place of the row holds is a member
@@ -91,3 +91,9 @@ getD-within (x ∷ l) (suc i) d e h = getD-within l i d e (omega arith)
 pub rows-long : (n : ℕ) (rows : List (List ℕ)) → every (λ (row : List ℕ). eqb (length row) n) rows ≡ true → (k : ℕ) → k < length rows
     → length (getD rows k []) ≡ n
 rows-long n rows t k h = eqb-true (length (getD rows k [])) n (every-in (λ (row : List ℕ). eqb (length row) n) [] rows t k h)
+
+-- what two rows pass, the one after the other pass together
+pub every-append : {A : Type 0} (p : A → Bool) (xs ys : List A) → every p xs ≡ true → every p ys ≡ true → every p (xs ++ ys) ≡ true
+unfolding every
+every-append p [] ys f g = g
+every-append p (x ∷ xs) ys f g = let k = both-of (p x) (every p xs) f in both (k .0) (every-append p xs ys (k .1) g)

@@ -6,7 +6,7 @@ use denote.Ref.{now}
 use lib.IntN.{pos}
 use lib.ListN.{getD}
 use mir.Syntax.{w32}
-use mir.Val.{SFits, toZ, ofZ}
+use mir.Val.{SFits}
 use mir.ValLaws.{toZ-ofZ}
 use Rattle.huffman.proofs.Copying.{Copying, copying-begin, copying-turn, copying-end}
 use borrow.Author.Needs.{needs}

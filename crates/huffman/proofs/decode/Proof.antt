@@ -1,6 +1,6 @@
 -- `huffman::decode` meets its contract: no bits, no regions, a pair that is refused, or the pairs and then the quads, by the laws of the whole.
 -- Assumes nothing.
-use mathlib.Core.Path.{_≡_, refl, sym, _∙_}
+use mathlib.Core.Path.{refl, sym, _∙_}
 use Rattle.huffman.proofs.Whole.{none-read, no-regions, pairs-halted, quads-read}
 use borrow.Author.Needs.{needs}
 use Rattle.huffman.proofs.decode.Statement.{statement}

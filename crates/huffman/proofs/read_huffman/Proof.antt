@@ -1,6 +1,6 @@
 -- `huffman::read_huffman` meets its contract: the two tests are the definition's, a refused slot is copied nowhere, and what was read into zeros
 -- is the padded whole that is copied. Assumes nothing.
-use mathlib.Core.Path.{_≡_, sym, ap, _∙_}
+use mathlib.Core.Path.{sym, ap, _∙_}
 use denote.Ref.{now}
 use Rattle.standard.specs.Numbers.{Numbers}
 use Rattle.huffman.specs.Slot.{countOf, numbersAfter}

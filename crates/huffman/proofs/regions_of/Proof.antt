@@ -1,6 +1,6 @@
 -- `huffman::regions_of` meets its contract: its tests are the definition's.
 -- Assumes nothing.
-use mathlib.Core.Path.{_≡_, sym, _∙_}
+use mathlib.Core.Path.{sym, _∙_}
 use Rattle.standard.specs.ToldLaws.{picked, passed}
 use Rattle.standard.specs.Numbers.{regionsOf}
 use Rattle.standard.specs.declared.Regions.the-variants.{Split}

@@ -24,7 +24,7 @@ byte s at width v h e =
     omega (arith, fieldAt-lt s at (min width 16))
 
 array-read-result : tie.Need-array-read-result
-array-read-result c = c .before .before .pre .0 (c .if1 .taken)
+array-read-result c = omega (arith, c .before .before .pre .0 (c .if1 .taken))
 
 returns : tie.Need-returns
 unfolding pick

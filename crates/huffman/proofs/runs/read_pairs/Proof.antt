@@ -1,10 +1,10 @@
 -- `huffman::runs::read_pairs` meets its contract. The loop's invariant: the numbers stored so far, then the pairs left from the bits left, are
 -- all pairs. The measure is how many pairs are left. Assumes nothing.
-use mathlib.Core.Path.{_≡_, sym, _∙_}
+use mathlib.Core.Path.{sym, _∙_}
 use Prim.Native.Nat.{_-_}
 use native.Mathlib.Omega.{arith}
 use mir.Syntax.{w32}
-use mir.Val.{SFits, toZ, ofZ}
+use mir.Val.{SFits}
 use mir.ValLaws.{toZ-ofZ}
 use Rattle.standard.specs.Bits.{window}
 use Rattle.standard.specs.Numbers.{tableAt, pairs}

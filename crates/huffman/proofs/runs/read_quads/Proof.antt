@@ -1,11 +1,11 @@
 -- `huffman::runs::read_quads` meets its contract. The loop's invariant: the numbers before and those stored so far, then the quads left from the
 -- bits left, are all numbers. The measure is how many positions are left. Assumes nothing.
-use mathlib.Core.Path.{_≡_, sym, _∙_}
+use mathlib.Core.Path.{sym, _∙_}
 use Prim.Native.Nat.{_-_, _/_}
 use native.Mathlib.Omega.{arith}
 use lib.ListN.{take}
 use mir.Syntax.{w32}
-use mir.Val.{SFits, toZ, ofZ}
+use mir.Val.{SFits}
 use mir.ValLaws.{toZ-ofZ}
 use Rattle.standard.specs.Bits.{window}
 use Rattle.standard.specs.Numbers.{prepend, quads}

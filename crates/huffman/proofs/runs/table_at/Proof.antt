@@ -1,6 +1,6 @@
 -- `huffman::runs::table_at` meets its contract: its two tests are the definition's.
 -- Assumes nothing.
-use mathlib.Core.Path.{_≡_, sym, _∙_}
+use mathlib.Core.Path.{sym, _∙_}
 use borrow.Author.Tests.{lt-ltb, le-ltb}
 use Rattle.standard.specs.ToldLaws.{picked, passed}
 use Rattle.standard.specs.Numbers.{tableAt}

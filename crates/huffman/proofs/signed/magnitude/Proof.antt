@@ -3,7 +3,7 @@
 use mathlib.Core.Path.{_≡_, sym, ap, _∙_}
 use native.Mathlib.Omega.{arith}
 use Rattle.standard.specs.NumbersLaws.{escape-le, plain, escape-cut, escape-whole}
-use Prim.Native.Nat.{ℕ, _+_, _-_, _≤_, min}
+use Prim.Native.Nat.{_+_, _-_, _≤_, min}
 use denote.Ref.{now}
 use Rattle.standard.specs.Bits.{fieldAt}
 use Rattle.standard.specs.Codes.{escapeWidth}

@@ -1,7 +1,6 @@
 -- `huffman::signed::with_sign` meets its contract: 0 has no sign bit, and any other number has the next bit.
 -- Assumes nothing.
-use mathlib.Core.Path.{_≡_, sym, ap, _∙_}
-use Rattle.standard.specs.Numbers.{signOf}
+use mathlib.Core.Path.{sym}
 use Rattle.standard.specs.BitsLaws.{window-cons, window-nil}
 use Rattle.standard.specs.NumbersLaws.{signed-zero, signed-none, signed-some}
 use borrow.Author.Needs.{needs}

@@ -1,6 +1,6 @@
 -- `huffman::words::pair` meets its contract: the codeword is read, then its two numbers from the place after it. Each lies within the bits,
 -- so the places do not wrap. Assumes nothing.
-use mathlib.Core.Path.{_≡_, sym, _∙_}
+use mathlib.Core.Path.{sym, _∙_}
 use native.Mathlib.Omega.{arith}
 use Rattle.standard.specs.BitsLaws.{window-drop}
 use Rattle.standard.specs.Numbers.{pairAfter, pairWord, pairOf}

@@ -1,6 +1,6 @@
 -- `huffman::words::quad` meets its contract: the codeword is read, which lies within the bits, then its numbers from the place after it.
 -- Assumes nothing.
-use mathlib.Core.Path.{_≡_, sym, _∙_}
+use mathlib.Core.Path.{sym, _∙_}
 use native.Mathlib.Omega.{arith}
 use Rattle.standard.specs.BitsLaws.{window-drop}
 use Rattle.standard.specs.Numbers.{quadWord, quadOf}

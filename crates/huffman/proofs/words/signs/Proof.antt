@@ -1,10 +1,10 @@
 -- `huffman::words::signs` meets its contract: two numbers, then two from the place after them, none with an escape. Each lies within the
 -- bits, so the places do not wrap. Assumes nothing.
-use mathlib.Core.Path.{_≡_, sym, _∙_}
+use mathlib.Core.Path.{sym, _∙_}
 use native.Mathlib.Omega.{arith}
 use Rattle.standard.specs.BitsLaws.{window-drop}
 use Rattle.standard.specs.Codes.{escapes, escapeWidth}
-use Rattle.standard.specs.Numbers.{twoOf, quadLast, quadFirst}
+use Rattle.standard.specs.Numbers.{quadLast, quadFirst}
 use Rattle.huffman.proofs.Within.{two-within}
 use borrow.Author.Needs.{needs}
 use Rattle.huffman.proofs.words.signs.Statement.{statement}

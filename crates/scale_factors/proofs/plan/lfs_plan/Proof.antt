@@ -1,7 +1,9 @@
 -- `scale_factors::plan::lfs_plan` meets its contract: counts and lengths are the definition's, and nothing is shared.
 -- Assumes nothing.
+use mathlib.Core.Bool.{false}
+use lib.ListN.{replicate}
 use Rattle.standard.specs.FactorsLaws.{countsOf, lengthsOf, sharedOf}
-use Rattle.scale_factors.specs.Groups.{planIn}
+use Rattle.scale_factors.specs.Groups.{planned, planIn}
 use borrow.Author.Needs.{needs}
 use Rattle.scale_factors.proofs.plan.lfs_plan.Statement.{statement}
 use Rattle.scale_factors.proofs.plan.lfs_plan.Tie as tie
@@ -14,7 +16,7 @@ lfs-lengths-requires c κs = search needs
 
 returns : tie.Need-returns
 unfolding planIn countsOf lengthsOf sharedOf
-returns c = cc
+returns c = λ j. planned (c .before .lfs-counts .ensures j) (c .lfs-lengths .ensures j) (replicate 4 false)
 
 pub lfs-plan-spec : {M : Type 1} → statement M
 lfs-plan-spec = tie.close (tie.spec lfs-counts-requires lfs-lengths-requires returns)

@@ -1,11 +1,12 @@
--- `side_info::record::read_record` meets its contract: its parts are the record's, and `record_from` says what they spell.
+-- `side_info::record::read_record` meets its contract: its parts are the record's, so that the verdict and the record are.
 -- Assumes nothing.
-use mathlib.Core.Path.{ap, _∙_}
+use mathlib.Core.Path.{refl, ap, _∙_}
 use denote.Ref.{now}
 use Prim.Native.Nat.{ℕ, _+_}
 use native.Mathlib.Omega.{arith}
 use borrow.Author.Needs.{needs}
 use Rattle.standard.specs.Bits.{fieldAt}
+use Rattle.side_info.specs.Parts.{PartsAt}
 use Rattle.side_info.proofs.Fields.{width}
 use Rattle.side_info.proofs.record.read_record.Statement.{statement}
 use Rattle.side_info.proofs.record.read_record.Tie as tie
@@ -25,14 +26,21 @@ add-word-2 c = omega (arith, width (c .before .before .before .args .mpeg1))
 word-requires : tie.Need-word-requires
 word-requires c κs = search needs
 
-record-from-requires : tie.Need-record-from-requires
-record-from-requires c κs = search needs
+verdict-of-requires : tie.Need-verdict-of-requires
+verdict-of-requires c κs = search needs
+
+slot-of-requires : tie.Need-slot-of-requires
+slot-of-requires c κs = search needs
 
 returns : tie.Need-returns
 returns c =
-    let d = c .before .before .before in
-    let a = d .before .before .args in
-    c .record-from .ensures _ _ _ (record { common = d .read-common .ensures; window = c .before .word .ensures ∙ ap (λ (n : ℕ). fieldAt (now (a .s)) (a .at + 29 + n) 23) (c .before .before .compress-width .ensures) })
+    let v = c .before in
+    let w = v .before in
+    let k = w .before .before in
+    let a = k .before .before .args in
+    let window = w .word .ensures ∙ ap (λ (n : ℕ). fieldAt (now (a .s)) (a .at + 29 + n) 23) (w .before .compress-width .ensures) in
+    let parts : PartsAt (a .mpeg1) (now (a .s)) (a .at) _ _ = record { common = k .read-common .ensures; window = window } in
+    record { verdict = v .verdict-of .ensures _ _ _ _ parts refl; value = λ x f. c .slot-of .ensures _ _ _ x parts f }
 
 pub read-record-spec : {M : Type 1} → statement M
 read-record-spec =
@@ -43,5 +51,6 @@ read-record-spec =
     add-word
     add-word-2
     word-requires
-    record-from-requires
+    verdict-of-requires
+    slot-of-requires
     returns)
