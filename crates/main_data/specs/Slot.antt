@@ -1,17 +1,20 @@
 -- What the functions on one slot answer, by the definition's outcome.
 use mathlib.Core.Path.{_≡_}
-use mathlib.Core.Bool.{Bool}
-use mathlib.Core.List.{List}
-use Prim.Native.Nat.{ℕ}
+use mathlib.Core.Bool.{Bool, true, false}
+use mathlib.Core.List.{List, []}
+use Prim.Native.Nat.{ℕ, _-_, _≤_}
 use lib.IntN.{ℤ}
+use lib.ListN.{getD}
 use Rattle.standard.specs.Bits.{bits}
 use Rattle.standard.specs.Record.{isShort}
 use Rattle.standard.specs.Factors.{planOf, planBits, factorsFrom, longFactors, shortFactors}
-use Rattle.standard.specs.Refusals.{toldSlot}
+use Rattle.standard.specs.Refusals.{SlotSaid, lacking, refusedBy, counted, toldSlot}
 use Rattle.standard.specs.Slots.{Outcome, slotTold, numbersAfter}
 use Rattle.standard.specs.declared.Setting.{Setting}
 use Rattle.standard.specs.declared.SlotRecord.{SlotRecord}
 use Rattle.standard.specs.declared.SlotAnswer.{SlotAnswer}
+use Rattle.standard.specs.declared.SlotOutcome.the-variants.{Read}
+use Rattle.standard.specs.declared.BlockType.the-variants.{Long}
 
 -- a slot's answer, and its own numbers after it
 pub record SlotRead (o : Outcome) (d : List ℤ) (a : SlotAnswer) (left : List ℤ) : Type 0 where
@@ -26,3 +29,36 @@ factorsAt g r old s at =
 pub record FactorsRead (g : Setting) (r : SlotRecord) (old s : List ℕ) (at : ℕ) (long short : List ℕ) : Type 0 where
   pub long-is : long ≡ longFactors (isShort (r .block)) (factorsAt g r old s at)
   pub short-is : short ≡ shortFactors (isShort (r .block)) (factorsAt g r old s at)
+
+-- ---- what a slot may share with
+unfoldable pub saidRefused : SlotSaid → Bool
+saidRefused lacking = false
+saidRefused (refusedBy n) = true
+saidRefused (counted n) = false
+
+-- what stands past the end of a list of answers
+abbrev pub noAnswer : SlotAnswer
+noAnswer = record { outcome = Read 0; long = []; short = [] }
+
+-- nothing in granule 0, and in granule 1 what the answer of the same channel's granule 0 slot tells
+pub record Mated (channels : ℕ) (answers : List SlotAnswer) (k : ℕ) (lost : Bool) (old : List ℕ) : Type 0 where
+  pub lost-is : channels ≤ k → lost ≡ saidRefused (toldSlot (getD answers (k - channels) noAnswer) .said)
+  pub old-is : channels ≤ k → old ≡ toldSlot (getD answers (k - channels) noAnswer) .long
+
+-- what stands past the end of a list of records
+abbrev pub pastRecord : SlotRecord
+pastRecord =
+    record {
+      length = 0;
+      pairs = 0;
+      gain = 0;
+      compress = 0;
+      block = Long;
+      gains = [];
+      tables = [];
+      region0 = 0;
+      region1 = 0;
+      preflag = false;
+      scale = false;
+      count1 = false;
+    }

@@ -4,34 +4,37 @@
 use mathlib.Core.Path.{_≡_, refl, sym, ap, _∙_}
 use mathlib.Core.Bool.{Bool, true, false, not, _&&_, _||_}
 use mathlib.Core.Logic.{_↔_}
-use mathlib.Core.List.{List, [], _∷_, _++_, append-assoc}
+use mathlib.Core.List.{List, [], _∷_, _++_, append-assoc, map}
 use Prim.Native.Nat.{ℕ, zero, suc, _+_, _-_, _*_, _≤_, _<_}
 use native.Mathlib.Decide.{decLe}
 use native.Mathlib.Omega.{arith}
-use borrow.Author.Tests.{le-leb, lt-leb}
+use borrow.Author.Tests.{le-leb, lt-leb, lt-ltb, le-ltb}
 use lib.Dec.{eqb, leb, ltb}
 use lib.IntN.{ℤ, pos}
 use lib.ListN.{length, getD, take, drop, replicate, length-append, length-replicate}
 use lib.Seq.{paste, length-paste, drop-paste, take-take, drop-drop, take-at, drop-at, length-take-le}
-use Rattle.standard.specs.Told.{pick}
-use Rattle.standard.specs.ToldLaws.{picked, passed, never}
-use Rattle.standard.specs.Refusals.{numberOf}
+use Rattle.standard.specs.Told.{Told, told, pick, toldOr, verdictOf}
+use Rattle.standard.specs.ToldLaws.{picked, passed, never, both}
+use Rattle.standard.specs.Refusals.{numberOf, refuse, toldVerdict, toldSlot}
 use Rattle.standard.specs.Bits.{bits}
 use Rattle.standard.specs.BitsLaws.{bits-append}
 use Rattle.standard.specs.CopyLaws.{take-drop}
 use Rattle.standard.specs.Codes.{wordOf}
-use Rattle.standard.specs.Header.{granules, channelCount}
+use Rattle.standard.specs.Header.{isHeader, granules, channelCount}
+use Rattle.standard.specs.SideInfo.{isSide}
 use Rattle.standard.specs.Record.{isShort}
 use Rattle.standard.specs.Factors.{Source, planOf, planBits, factorsFrom}
 use Rattle.standard.specs.Numbers.{Reader, numberIn, twoLast, twoFirst, twoOf, pairAfter, pairWord, pairOf, quadLast, quadFirst, quadWord, quadOf, Numbers, halted, got, prepend, thenPairs, pairs, thenQuads, quads, thenRest, numbersBy, regionsOf, tableAt, numbersOf, quadTable, padded}
-use Rattle.standard.specs.Slots.{Outcome, stopped, holds, isStopped, longOf, anyOf, withFactors, slotBy, slotOf, settingOf, mateOf, slotIn, thenSlots, slotsFrom, slotsOf, numbersAfter, numbersFrom}
+use Rattle.standard.specs.Slots.{Outcome, stopped, holds, isStopped, longOf, anyOf, withFactors, slotBy, slotOf, settingOf, mateOf, slotIn, thenSlots, slotsFrom, slotsOf, slotsTold, numbersAfter, numbersFrom, readSlots, SlotsRead}
 use Rattle.standard.specs.declared.SampleRate.{SampleRate}
 use Rattle.standard.specs.declared.Setting.{Setting}
 use Rattle.standard.specs.declared.FrameHeader.{FrameHeader}
 use Rattle.standard.specs.declared.SlotRecord.{SlotRecord}
 use Rattle.standard.specs.declared.SideInfo.{SideInfo}
+use Rattle.standard.specs.declared.SlotsAnswer.{SlotsAnswer}
+use Rattle.standard.specs.declared.Verdict.the-variants.{Accepted, Refused}
 use Rattle.standard.specs.declared.Refusal.{Refusal}
-use Rattle.standard.specs.declared.Refusal.the-variants.{MissingBits, FactorOverrun, LostShare, RegionOverrun, PairOverrun, NoCodeword}
+use Rattle.standard.specs.declared.Refusal.the-variants.{UnfitMemory, MadeUpRecord, MissingBits, FactorOverrun, LostShare, RegionOverrun, PairOverrun, NoCodeword}
 use Rattle.standard.specs.declared.Codeword.{Codeword}
 use Rattle.standard.specs.declared.Codeword.the-variants.{Coded, Cut, Alien}
 use Rattle.standard.specs.declared.Regions.{Regions}
@@ -335,3 +338,35 @@ pub own-bits : (xs ys : List ℕ) (at bt : ℕ) (g : Setting) (r : SlotRecord) (
     → at + r .length ≤ 8 * length xs → bt + r .length ≤ 8 * length ys → bits xs at (r .length) ≡ bits ys bt (r .length)
     → slotIn xs at g r lost old ≡ slotIn ys bt g r lost old
 own-bits xs ys at bt g r lost old h k e = slotIn-read xs at g r lost old h ∙ ap (slotOf g r lost old) e ∙ sym (slotIn-read ys bt g r lost old k)
+
+-- ---- what the call comes to
+module _ (h : FrameHeader) (i : SideInfo) (s : List ℕ) (n : ℕ) where
+  pub few-numbers : n < 2304 → readSlots h i s n ≡ refuse UnfitMemory
+  unfolding readSlots
+  few-numbers k = picked _ (lt-ltb n 2304 k)
+
+  pub made-up-call : 2304 ≤ n → isHeader h && isSide h i ≡ false → readSlots h i s n ≡ refuse MadeUpRecord
+  unfolding readSlots
+  made-up-call k e = passed _ (le-ltb n 2304 k) ∙ passed _ e
+
+  pub read-call : 2304 ≤ n → isHeader h ≡ true → isSide h i ≡ true → readSlots h i s n ≡ told (slotsOf h i s)
+  unfolding readSlots
+  read-call k e f = passed _ (le-ltb n 2304 k) ∙ picked _ (both e f)
+
+pub slots-refused : {d left : List ℤ} {t : Told (List Outcome)} {r : SlotsAnswer} {why : Refusal} → t ≡ refuse why
+    → (r .verdict ≡ Refused why) × (map toldSlot (r .slots) ≡ slotsTold []) → left ≡ d → SlotsRead d t r left
+unfolding verdictOf toldOr numbersFrom
+slots-refused {d = d} e a l = record {
+  verdict = ap toldVerdict (a .0) ∙ sym (ap verdictOf e);
+  slots = a .1 ∙ sym (ap (λ (x : Told (List Outcome)). slotsTold (toldOr [] x)) e);
+  numbers = l ∙ sym (ap (λ (x : Told (List Outcome)). numbersFrom 0 (toldOr [] x) d) e);
+}
+
+pub slots-told : {d left : List ℤ} {t : Told (List Outcome)} {os : List Outcome} {r : SlotsAnswer} → t ≡ told os → r .verdict ≡ Accepted
+    → (map toldSlot (r .slots) ≡ slotsTold os) × (left ≡ numbersFrom 0 os d) → SlotsRead d t r left
+unfolding verdictOf toldOr
+slots-told {d = d} e v a = record {
+  verdict = ap toldVerdict v ∙ sym (ap verdictOf e);
+  slots = a .0 ∙ sym (ap (λ (x : Told (List Outcome)). slotsTold (toldOr [] x)) e);
+  numbers = a .1 ∙ sym (ap (λ (x : Told (List Outcome)). numbersFrom 0 (toldOr [] x) d) e);
+}
