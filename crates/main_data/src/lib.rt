@@ -12,7 +12,7 @@ use tables::trees::trees;
 ghost use lib.ListN.{length};
 ghost use Rattle.standard.specs.Slots.{readSlots, SlotsRead};
 
-mod answers;
+pub mod answers;
 mod frame_slots;
 mod setting;
 mod slot;

@@ -22,7 +22,7 @@ mod checks;
 mod layout;
 mod record;
 mod records;
-mod side;
+pub mod side;
 mod words;
 
 // The side information of a frame under its header, from the frame's bytes, the header's first.

@@ -20,7 +20,7 @@ ghost use Rattle.standard.specs.Header.{sideBytes};
 ghost use Rattle.standard.specs.SideInfo.{noSide, sideIn, sideFrom};
 
 // A refusal beside blank side information.
-pub(crate) fn no_side(why: Refusal) -> SideInfoAnswer
+pub fn no_side(why: Refusal) -> SideInfoAnswer
     ensures { λ r. ⌜ ((t : Told SideInfo) → t ≡ refuse why → Answers noSide (r .verdict) (r .info) t) ⌝ }
 {
     let a = absent_record();

@@ -1,18 +1,22 @@
 -- One frame, from its bytes and what the frames before it left (11172-3, 2.4.1.1 to 2.4.1.7): header, side information, main data, slots.
 -- The first fault decides, in document 01's order.
+use mathlib.Core.Path.{_≡_}
 use mathlib.Core.Bool.{Bool, _||_}
-use mathlib.Core.List.{List, []}
+use mathlib.Core.List.{List, [], map}
 use Prim.Native.Nat.{ℕ, _+_}
 use lib.Dec.{ltb}
+use lib.IntN.{ℤ}
 use lib.ListN.{length, take, drop}
 use Rattle.standard.specs.Told.{Told, refused, told, pick}
-use Rattle.standard.specs.Refusals.{numberOf}
+use Rattle.standard.specs.Refusals.{numberOf, toldVerdict, toldSlot}
 use Rattle.standard.specs.Header.{headerOf, headerSize, sideSize, mainSize, frameLength, noHeader}
 use Rattle.standard.specs.SideInfo.{sideOf, noSide}
-use Rattle.standard.specs.Slots.{Outcome, slotsOf}
-use Rattle.standard.specs.Reservoir.{Turn, short, reached, turnOf, Kept, untouched, keeping, unfit}
+use Rattle.standard.specs.Slots.{Outcome, slotsOf, slotsTold, numbersFrom}
+use Rattle.standard.specs.Reservoir.{Turn, short, reached, turnOf, Kept, untouched, keeping, unfit, reservoirAfter, bytesAfter}
 use Rattle.standard.specs.declared.FrameHeader.{FrameHeader}
 use Rattle.standard.specs.declared.SideInfo.{SideInfo}
+use Rattle.standard.specs.declared.Reservoir.{Reservoir}
+use Rattle.standard.specs.declared.FrameAnswer.{FrameAnswer}
 use Rattle.standard.specs.declared.Refusal.the-variants.{UnfitMemory, AbsentBytes, ShortReservoir}
 
 -- what a frame comes to
@@ -61,3 +65,14 @@ unfoldable pub frameCall : List ℕ → List ℕ → ℕ → ℕ → Step
 frameCall s lent stated d =
     pick (unfit lent stated || ltb d 2304) (noStep (numberOf UnfitMemory))
     (frameOf s (take stated lent))
+
+-- what is answered of a frame, and the lent bytes and numbers after it
+pub record FrameRead (lent : List ℕ) (old : Reservoir) (d : List ℤ) (p : Step) (r : FrameAnswer) (left : List ℕ) (numbers : List ℤ) : Type 0 where
+  pub verdict : toldVerdict (r .verdict) ≡ p .verdict
+  pub header : r .header ≡ p .header
+  pub info : r .info ≡ p .info
+  pub length-is : r .length ≡ p .length
+  pub slots : map toldSlot (r .slots) ≡ slotsTold (p .slots)
+  pub reservoir : r .reservoir ≡ reservoirAfter old (p .kept)
+  pub bytes : left ≡ bytesAfter lent (p .kept)
+  pub numbers-are : numbers ≡ numbersFrom 0 (p .slots) d

@@ -39,3 +39,4 @@ pub mod SlotsLaws
 pub mod CopyLaws
 pub mod ReservoirLaws
 pub mod ReorderLaws
+pub mod FrameLaws

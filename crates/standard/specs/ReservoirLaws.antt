@@ -37,7 +37,7 @@ module _ (lent : List ℕ) (stated begin : ℕ) (main : List ℕ) where
     old-long : length (take stated lent) ≡ stated
     old-long = length-take-le stated lent (omega arith)
 
-    fitting : turnIn lent stated begin main ≡ told (turnOf begin (take stated lent) main)
+    pub fitting : turnIn lent stated begin main ≡ told (turnOf begin (take stated lent) main)
     unfolding turnIn unfit
     fitting = passed _ (neither (neither (le-ltb _ _ lent-fits) (le-ltb _ _ stated-fits)) (le-ltb _ _ fits))
 

@@ -1,0 +1,164 @@
+// One frame of a recording, from its bytes and what the frames before it left in the reservoir.
+use header::frame_length;
+use header::header_size;
+use header::main_size;
+use header::read_frame_header;
+use header::side_size;
+use main_data::answers::lacking_slots;
+use main_data::read_slots;
+use reservoir::turn;
+use side_info::read_side_info;
+use side_info::side::no_side;
+use standard::BitRate;
+use standard::Channels;
+use standard::Emphasis;
+use standard::FrameAnswer;
+use standard::FrameHeader;
+use standard::HeaderAnswer;
+use standard::MpegVersion;
+use standard::Refusal;
+use standard::Reservoir;
+use standard::SampleRate;
+use standard::SideInfo;
+use standard::Verdict;
+ghost use mathlib.Core.Path.{_≡_};
+ghost use mathlib.Core.Bool.{true};
+ghost use mathlib.Core.List.{[], map};
+ghost use Prim.Native.Nat.{_≤_};
+ghost use lib.ListN.{length, take};
+ghost use Rattle.standard.specs.Told.{told};
+ghost use Rattle.standard.specs.Refusals.{toldSlot};
+ghost use Rattle.standard.specs.Header.{headerOf, mainSize, noHeader, isHeader};
+ghost use Rattle.standard.specs.SideInfo.{noSide, isSide};
+ghost use Rattle.standard.specs.Slots.{slotsTold};
+ghost use Rattle.standard.specs.Reservoir.{turnOf};
+ghost use Rattle.standard.specs.Frame.{withTurn, frameOf, frameCall, FrameRead};
+
+// Bytes and numbers a reader lends, at least.
+const LENT: usize = 4096;
+
+const NUMBERS: usize = 2304;
+
+// What stands for a header where none is told.
+fn no_header() -> FrameHeader
+    ensures { λ r. ⌜ r ≡ noHeader ⌝ }
+{
+    FrameHeader {
+        version: MpegVersion::Mpeg1,
+        crc: false,
+        bitrate: BitRate::Kbps8,
+        rate: SampleRate::Hz8000,
+        padding: false,
+        channels: Channels::Mono,
+        copyright: false,
+        original: false,
+        emphasis: Emphasis::NoEmphasis,
+    }
+}
+
+// A refused frame tells nothing, and the reservoir stays.
+fn refused(reason: Refusal, reservoir: Reservoir) -> FrameAnswer
+    ensures { λ r. ⌜ (r .verdict ≡ Verdict.Refused reason) × (r .header ≡ noHeader) × (r .info ≡ noSide) × (r .length ≡ 0) × (map toldSlot (r .slots) ≡ slotsTold []) × (r .reservoir ≡ reservoir) ⌝ }
+{
+    let header = no_header();
+    let a = no_side(reason);
+    let info = a.info;
+    let slots = lacking_slots();
+    FrameAnswer {
+        verdict: Verdict::Refused(reason),
+        header,
+        info,
+        length: 0,
+        slots,
+        reservoir,
+    }
+}
+
+// The main data takes its turn with the reservoir, and the slots are read from what is kept.
+fn with_main(
+    h: FrameHeader,
+    i: SideInfo,
+    main: &[u8],
+    bytes: &mut [u8],
+    reservoir: Reservoir,
+    numbers: &mut [i32],
+) -> FrameAnswer
+    requires { ⌜ (4096 ≤ length (now bytes)) × (reservoir .length ≤ 4096) × (2304 ≤ length (now numbers)) × (isHeader h ≡ true) × (isSide h i ≡ true) × (length (now main) ≡ mainSize h) ⌝ }
+    ensures { λ r. ⌜ FrameRead (now (bytes .entry)) reservoir (now (numbers .entry)) (withTurn h i (turnOf (i .begin) (take (reservoir .length) (now (bytes .entry))) (now (main .entry)))) r (now (bytes .exit)) (now (numbers .exit)) ⌝ }
+{
+    let length = frame_length(h);
+    let a = turn(&mut *bytes, reservoir, i.begin, main);
+    let kept = a.reservoir;
+    let verdict = a.verdict;
+    if let Verdict::Refused(why) = verdict {
+        let slots = lacking_slots();
+        return FrameAnswer {
+            verdict: Verdict::Refused(why),
+            header: h,
+            info: i,
+            length,
+            slots,
+            reservoir: kept,
+        };
+    }
+    let s = read_slots(h, i, &bytes[..kept.length], numbers);
+    let slots = s.slots;
+    FrameAnswer {
+        verdict: Verdict::Accepted,
+        header: h,
+        info: i,
+        length,
+        slots,
+        reservoir: kept,
+    }
+}
+
+// The side information decides first, then whether all of the frame's bytes are there.
+fn with_header(
+    h: FrameHeader,
+    frame: &[u8],
+    bytes: &mut [u8],
+    reservoir: Reservoir,
+    numbers: &mut [i32],
+) -> FrameAnswer
+    requires { ⌜ (4096 ≤ length (now bytes)) × (reservoir .length ≤ 4096) × (2304 ≤ length (now numbers)) × (headerOf (now frame) ≡ told h) ⌝ }
+    ensures { λ r. ⌜ FrameRead (now (bytes .entry)) reservoir (now (numbers .entry)) (frameOf (now (frame .entry)) (take (reservoir .length) (now (bytes .entry)))) r (now (bytes .exit)) (now (numbers .exit)) ⌝ }
+{
+    let a = read_side_info(h, frame);
+    let i = a.info;
+    let verdict = a.verdict;
+    if let Verdict::Refused(why) = verdict {
+        return refused(why, reservoir);
+    }
+    if frame.len() < frame_length(h) {
+        return refused(Refusal::AbsentBytes, reservoir);
+    }
+    let from = header_size(h) + side_size(h);
+    let to = from + main_size(h);
+    with_main(h, i, &frame[from..to], bytes, reservoir, numbers)
+}
+
+// One frame, which starts at the first of the bytes. The reservoir's bytes and the numbers are lent; a refused frame changes
+// neither, except that a frame which reaches too far back still adds its main data for the next ones.
+pub fn process_frame(
+    frame: &[u8],
+    bytes: &mut [u8],
+    reservoir: Reservoir,
+    numbers: &mut [i32],
+) -> FrameAnswer
+    ensures { λ r. ⌜ FrameRead (now (bytes .entry)) reservoir (now (numbers .entry)) (frameCall (now (frame .entry)) (now (bytes .entry)) (reservoir .length) (length (now (numbers .entry)))) r (now (bytes .exit)) (now (numbers .exit)) ⌝ }
+{
+    if bytes.len() < LENT {
+        return refused(Refusal::UnfitMemory, reservoir);
+    }
+    if LENT < reservoir.length {
+        return refused(Refusal::UnfitMemory, reservoir);
+    }
+    if numbers.len() < NUMBERS {
+        return refused(Refusal::UnfitMemory, reservoir);
+    }
+    match read_frame_header(frame) {
+        HeaderAnswer::NoHeader(why) => refused(why, reservoir),
+        HeaderAnswer::Header(h) => with_header(h, frame, bytes, reservoir, numbers),
+    }
+}

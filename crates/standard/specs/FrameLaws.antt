@@ -1,0 +1,140 @@
+-- A frame's step by its stages, and what is answered at each.
+use mathlib.Core.Path.{_≡_, refl, sym, ap, _∙_}
+use mathlib.Core.Bool.{Bool, true, false, _||_}
+use mathlib.Core.List.{List, [], map, _++_}
+use Prim.Native.Nat.{ℕ, _+_, _≤_, _<_}
+use native.Mathlib.Omega.{arith}
+use borrow.Author.Tests.{lt-ltb, le-ltb}
+use lib.Dec.{ltb}
+use lib.IntN.{ℤ}
+use lib.ListN.{length, take, drop, length-append}
+use lib.Seq.{take-at}
+use Rattle.standard.specs.Told.{Told, refused, told, toldOr, pick}
+use Rattle.standard.specs.ToldLaws.{picked, passed, either-left, either-right, neither}
+use Rattle.standard.specs.Refusals.{numberOf, refuse, toldVerdict, toldSlot}
+use Rattle.standard.specs.RefusalsLaws.{apart}
+use Rattle.standard.specs.Header.{headerOf, headerSize, sideSize, mainSize, frameLength, noHeader, isHeader}
+use Rattle.standard.specs.SideInfo.{sideOf, noSide, isSide}
+use Rattle.standard.specs.Slots.{Outcome, slotsOf, slotsTold, numbersFrom, readSlots, SlotsRead}
+use Rattle.standard.specs.SlotsLaws.{read-call}
+use Rattle.standard.specs.Reservoir.{Turn, short, reached, turnOf, Kept, untouched, keeping, unfit, reservoirAfter, bytesAfter, turnVerdict, turnKept, Turned}
+use Rattle.standard.specs.Frame.{Step, noStep, shortStep, fullStep, withTurn, withSide, withHeader, frameOf, frameCall, FrameRead}
+use Rattle.standard.specs.declared.FrameHeader.{FrameHeader}
+use Rattle.standard.specs.declared.SideInfo.{SideInfo}
+use Rattle.standard.specs.declared.Reservoir.{Reservoir}
+use Rattle.standard.specs.declared.ReservoirAnswer.{ReservoirAnswer}
+use Rattle.standard.specs.declared.SlotsAnswer.{SlotsAnswer}
+use Rattle.standard.specs.declared.FrameAnswer.{FrameAnswer}
+use Rattle.standard.specs.declared.Verdict.the-variants.{Accepted, Refused}
+use Rattle.standard.specs.declared.Refusal.{Refusal}
+use Rattle.standard.specs.declared.Refusal.the-variants.{UnfitMemory, AbsentBytes, ShortReservoir}
+
+-- ---- the call
+module _ (s lent : List ℕ) (stated d : ℕ) where
+  pub call-few-bytes : length lent < 4096 → frameCall s lent stated d ≡ noStep (numberOf UnfitMemory)
+  unfolding frameCall unfit
+  call-few-bytes h = picked _ (either-left (ltb d 2304) (either-left (ltb 4096 stated) (lt-ltb (length lent) 4096 h)))
+
+  pub call-much-stated : 4096 < stated → frameCall s lent stated d ≡ noStep (numberOf UnfitMemory)
+  unfolding frameCall unfit
+  call-much-stated h = picked _ (either-left (ltb d 2304) (either-right (ltb (length lent) 4096) (lt-ltb 4096 stated h)))
+
+  pub call-few-numbers : d < 2304 → frameCall s lent stated d ≡ noStep (numberOf UnfitMemory)
+  unfolding frameCall
+  call-few-numbers h = picked _ (either-right (unfit lent stated) (lt-ltb d 2304 h))
+
+  pub call-fits : 4096 ≤ length lent → stated ≤ 4096 → 2304 ≤ d → frameCall s lent stated d ≡ frameOf s (take stated lent)
+  unfolding frameCall unfit
+  call-fits a b c = passed _ (neither (neither (le-ltb (length lent) 4096 a) (le-ltb 4096 stated b)) (le-ltb d 2304 c))
+
+-- ---- a refused frame tells nothing and changes nothing
+pub step-refused : {lent left : List ℕ} {old : Reservoir} {d nums : List ℤ} {p : Step} {r : FrameAnswer} {why : Refusal} → p ≡ noStep (numberOf why)
+    → (r .verdict ≡ Refused why) × (r .header ≡ noHeader) × (r .info ≡ noSide) × (r .length ≡ 0) × (map toldSlot (r .slots) ≡ slotsTold []) × (r .reservoir ≡ old)
+    → left ≡ lent → nums ≡ d → FrameRead lent old d p r left nums
+unfolding noStep reservoirAfter bytesAfter numbersFrom
+step-refused {lent} {left} {old} {d} e a l n = record {
+  verdict = ap toldVerdict (a .0) ∙ sym (ap (λ (x : Step). x .verdict) e);
+  header = a .1 ∙ sym (ap (λ (x : Step). x .header) e);
+  info = a .2 ∙ sym (ap (λ (x : Step). x .info) e);
+  length-is = a .3 ∙ sym (ap (λ (x : Step). x .length) e);
+  slots = a .4 ∙ sym (ap (λ (x : Step). slotsTold (x .slots)) e);
+  reservoir = a .5 ∙ sym (ap (λ (x : Step). reservoirAfter old (x .kept)) e);
+  bytes = l ∙ sym (ap (λ (x : Step). bytesAfter lent (x .kept)) e);
+  numbers-are = n ∙ sym (ap (λ (x : Step). numbersFrom 0 (x .slots) d) e);
+}
+
+-- ---- the stages
+module _ (s old : List ℕ) where
+  pub frame-no-header : {k : ℕ} → headerOf s ≡ refused k → frameOf s old ≡ noStep k
+  unfolding frameOf withHeader
+  frame-no-header e = ap (withHeader s old) e
+
+  module _ {h : FrameHeader} (e : headerOf s ≡ told h) where
+    pub frame-no-side : {k : ℕ} → sideOf h s ≡ refused k → frameOf s old ≡ noStep k
+    unfolding frameOf withHeader withSide
+    frame-no-side f = ap (withHeader s old) e ∙ ap (withSide h s old) f
+
+    module _ {i : SideInfo} (f : sideOf h s ≡ told i) where
+      pub frame-absent : length s < frameLength h → frameOf s old ≡ noStep (numberOf AbsentBytes)
+      unfolding frameOf withHeader withSide
+      frame-absent l = ap (withHeader s old) e ∙ ap (withSide h s old) f ∙ picked _ (lt-ltb (length s) (frameLength h) l)
+
+      pub frame-turn : frameLength h ≤ length s
+          → frameOf s old ≡ withTurn h i (turnOf (i .begin) old (take (mainSize h) (drop (headerSize h + sideSize h) s)))
+      unfolding frameOf withHeader withSide
+      frame-turn l = ap (withHeader s old) e ∙ ap (withSide h s old) f ∙ passed _ (le-ltb (length s) (frameLength h) l)
+
+-- ---- after the frame's turn with the reservoir
+module _ {lent left : List ℕ} {old : Reservoir} {a : ReservoirAnswer} where
+  -- what is kept stands in the lent bytes
+  pub kept-within : (t : Turn) → Turned lent old (told t) a left → a .reservoir .length ≤ length left
+  unfolding turnKept reservoirAfter bytesAfter
+  kept-within (short bs) u =
+      let e = ap (λ (x : Reservoir). x .length) (u .reservoir) in
+      let f = ap length (u .bytes) ∙ length-append bs (drop (length bs) lent) in
+      omega (arith, e, f)
+  kept-within (reached bs) u =
+      let e = ap (λ (x : Reservoir). x .length) (u .reservoir) in
+      let f = ap length (u .bytes) ∙ length-append bs (drop (length bs) lent) in
+      omega (arith, e, f)
+
+  module _ {h : FrameHeader} {i : SideInfo} {p : Step} {r : FrameAnswer} {d nums : List ℤ} where
+    -- too short a reservoir: all but the slots is told, and no number changes
+    pub step-short : (t : Turn) {why : Refusal} → p ≡ withTurn h i t → Turned lent old (told t) a left → a .verdict ≡ Refused why
+        → (r .verdict ≡ Refused why) × (r .header ≡ h) × (r .info ≡ i) × (r .length ≡ frameLength h) × (map toldSlot (r .slots) ≡ slotsTold []) × (r .reservoir ≡ a .reservoir)
+        → nums ≡ d → FrameRead lent old d p r left nums
+    unfolding withTurn shortStep turnVerdict turnKept numbersFrom
+    step-short (reached bs) e u v w n = apart (sym (ap toldVerdict v) ∙ u .verdict)
+    step-short (short bs) e u v w n = record {
+      verdict = ap toldVerdict (w .0 ∙ sym v) ∙ u .verdict ∙ sym (ap (λ (x : Step). x .verdict) e);
+      header = w .1 ∙ sym (ap (λ (x : Step). x .header) e);
+      info = w .2 ∙ sym (ap (λ (x : Step). x .info) e);
+      length-is = w .3 ∙ sym (ap (λ (x : Step). x .length) e);
+      slots = w .4 ∙ sym (ap (λ (x : Step). slotsTold (x .slots)) e);
+      reservoir = w .5 ∙ u .reservoir ∙ sym (ap (λ (x : Step). reservoirAfter old (x .kept)) e);
+      bytes = u .bytes ∙ sym (ap (λ (x : Step). bytesAfter lent (x .kept)) e);
+      numbers-are = n ∙ sym (ap (λ (x : Step). numbersFrom 0 (x .slots) d) e);
+    }
+
+    -- the slots are read from the bytes kept
+    pub step-full : (t : Turn) {q : SlotsAnswer} → p ≡ withTurn h i t → Turned lent old (told t) a left → a .verdict ≡ Accepted
+        → 2304 ≤ length d → isHeader h ≡ true → isSide h i ≡ true → SlotsRead d (readSlots h i (take (a .reservoir .length) left) (length d)) q nums
+        → (r .verdict ≡ Accepted) × (r .header ≡ h) × (r .info ≡ i) × (r .length ≡ frameLength h) × (r .slots ≡ q .slots) × (r .reservoir ≡ a .reservoir)
+        → FrameRead lent old d p r left nums
+    unfolding withTurn fullStep turnVerdict turnKept reservoirAfter bytesAfter toldOr
+    step-full (short bs) e u v l x y z w = apart (sym (u .verdict) ∙ ap toldVerdict v)
+    step-full (reached bs) e u v l x y z w =
+        let n : a .reservoir .length ≡ length bs = ap (λ (c : Reservoir). c .length) (u .reservoir) in
+        let kept : take (a .reservoir .length) left ≡ bs = (λ j. take (n j) (u .bytes j)) ∙ take-at bs (drop (length bs) lent) (length bs) refl in
+        let said : readSlots h i (take (a .reservoir .length) left) (length d) ≡ told (slotsOf h i bs) =
+        ap (λ (c : List ℕ). readSlots h i c (length d)) kept ∙ read-call h i bs (length d) l x y in
+        record {
+          verdict = ap toldVerdict (w .0) ∙ sym (ap (λ (x : Step). x .verdict) e);
+          header = w .1 ∙ sym (ap (λ (x : Step). x .header) e);
+          info = w .2 ∙ sym (ap (λ (x : Step). x .info) e);
+          length-is = w .3 ∙ sym (ap (λ (x : Step). x .length) e);
+          slots = ap (map toldSlot) (w .4) ∙ z .slots ∙ ap (λ (c : Told (List Outcome)). slotsTold (toldOr [] c)) said ∙ sym (ap (λ (x : Step). slotsTold (x .slots)) e);
+          reservoir = w .5 ∙ u .reservoir ∙ sym (ap (λ (x : Step). reservoirAfter old (x .kept)) e);
+          bytes = u .bytes ∙ sym (ap (λ (x : Step). bytesAfter lent (x .kept)) e);
+          numbers-are = z .numbers ∙ ap (λ (c : Told (List Outcome)). numbersFrom 0 (toldOr [] c) d) said ∙ sym (ap (λ (x : Step). numbersFrom 0 (x .slots) d) e);
+        }
