@@ -1,11 +1,11 @@
 // What stands at the start of a card: reads standard input and says how long its first frame is and how many of its bytes are
 // main data, or by which number of document 01 the frame is refused.
-use header::frame_length;
-use header::main_size;
 use header::read_frame_header;
 use libc::STDIN_FILENO;
 use libc::STDOUT_FILENO;
 use side_info::read_side_info;
+use sizes::frame_length;
+use sizes::main_size;
 use standard::FrameHeader;
 use standard::HeaderAnswer;
 use standard::Refusal;

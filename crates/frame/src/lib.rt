@@ -1,14 +1,14 @@
 // One frame of a recording, from its bytes and what the frames before it left in the reservoir.
-use header::frame_length;
-use header::header_size;
-use header::main_size;
 use header::read_frame_header;
-use header::side_size;
 use main_data::answers::lacking_slots;
 use main_data::read_slots;
 use reservoir::turn;
 use side_info::read_side_info;
 use side_info::side::no_side;
+use sizes::frame_length;
+use sizes::header_size;
+use sizes::main_size;
+use sizes::side_size;
 use standard::BitRate;
 use standard::Channels;
 use standard::Emphasis;
@@ -33,6 +33,7 @@ ghost use Rattle.standard.specs.SideInfo.{noSide, isSide};
 ghost use Rattle.standard.specs.Slots.{slotsTold};
 ghost use Rattle.standard.specs.Reservoir.{turnOf};
 ghost use Rattle.standard.specs.Frame.{withTurn, frameOf, frameCall, FrameRead};
+ghost use Rattle.frame.specs.Reasons.{reasonOf};
 
 // Bytes and numbers a reader lends, at least.
 const LENT: usize = 4096;
@@ -71,6 +72,16 @@ fn refused(reason: Refusal, reservoir: Reservoir) -> FrameAnswer
         length: 0,
         slots,
         reservoir,
+    }
+}
+
+// Why there is no header. It is asked only where there is none.
+fn refusal_of(a: HeaderAnswer) -> Refusal
+    ensures { λ r. ⌜ r ≡ reasonOf a ⌝ }
+{
+    match a {
+        HeaderAnswer::NoHeader(why) => why,
+        HeaderAnswer::Header(_) => Refusal::NoSync,
     }
 }
 
@@ -157,8 +168,9 @@ pub fn process_frame(
     if numbers.len() < NUMBERS {
         return refused(Refusal::UnfitMemory, reservoir);
     }
-    match read_frame_header(frame) {
-        HeaderAnswer::NoHeader(why) => refused(why, reservoir),
-        HeaderAnswer::Header(h) => with_header(h, frame, bytes, reservoir, numbers),
-    }
+    let a = read_frame_header(frame);
+    let HeaderAnswer::Header(h) = a else {
+        return refused(refusal_of(a), reservoir);
+    };
+    with_header(h, frame, bytes, reservoir, numbers)
 }

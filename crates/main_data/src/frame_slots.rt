@@ -2,8 +2,8 @@
 use crate::answers::lacking_slots;
 use crate::setting::setting_of;
 use crate::slot::read_slot;
-use header::channel_count;
-use header::granules;
+use sizes::channel_count;
+use sizes::granules;
 use standard::FrameHeader;
 use standard::SideInfo;
 use standard::SlotAnswer;

@@ -2,7 +2,7 @@
 use crate::answers::no_slots;
 use crate::frame_slots::slots_from;
 use header::is_header;
-use side_info::is_side_info;
+use records::is_side_info;
 use standard::FrameHeader;
 use standard::Refusal;
 use standard::SideInfo;

@@ -1,7 +1,7 @@
 // The short-block reorder: window by window before it, frequency by frequency after it.
 use header::is_header;
-use side_info::is_record;
-use standard::BlockType;
+use records::is_record;
+use sizes::is_short;
 use standard::FrameHeader;
 use standard::Refusal;
 use standard::SampleRate;
@@ -14,7 +14,6 @@ ghost use Prim.Native.Nat.{_+_, _*_, _≤_};
 ghost use lib.ListN.{length, take, drop, set};
 ghost use lib.Seq.{paste};
 ghost use Rattle.standard.specs.Refusals.{Answers};
-ghost use Rattle.standard.specs.Record.{isShort};
 ghost use Rattle.standard.specs.Reorder.{orderOf, gathered, reorderOf};
 ghost use Rattle.standard.specs.ReorderLaws.{bandNumbers};
 
@@ -74,17 +73,6 @@ fn reorder_short(rate: SampleRate, numbers: &mut [i32])
         let c = short_start(rate, k + 1) as usize;
         reorder_band(&old, &mut *numbers, 3 * b, c - b);
         k += 1;
-    }
-}
-
-fn is_short(b: BlockType) -> bool
-    ensures { λ r. ⌜ r ≡ isShort b ⌝ }
-{
-    match b {
-        BlockType::Long => false,
-        BlockType::Start => false,
-        BlockType::Short => true,
-        BlockType::End => false,
     }
 }
 

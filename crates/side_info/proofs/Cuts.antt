@@ -3,9 +3,10 @@ use mathlib.Core.Path.{_≡_, refl, sym, ap, _∙_}
 use mathlib.Core.List.{List}
 use Prim.Native.Nat.{ℕ, _+_, _-_, _*_, _/_, _%_, _^_, _≤_, _<_}
 use native.Mathlib.Omega.{arith}
-use lib.Pow.{pow-pos, pow-mono, shl-exact}
+use lib.Pow.{pow-pos, pow-mono}
 use Rattle.standard.specs.Bits.{bits, value, valueFrom, fieldAt}
 use Rattle.standard.specs.BitsLaws.{fieldAt-add, fieldAt-cut, fieldAt-lt}
+use Rattle.records.proofs.Widths.{mask}
 
 -- ---- k bytes, and one more
 pub bytes-none : (s : List ℕ) (i : ℕ) → 0 ≡ fieldAt s (8 * i) (8 * 0)
@@ -28,10 +29,6 @@ pub byte-below : (s : List ℕ) (at : ℕ) {x : ℕ} → x ≡ fieldAt s at 8 �
 byte-below s at e = omega (arith, fieldAt-lt s at 8)
 
 -- ---- n bits among the 40 from a byte on
--- the divisor that leaves n bits, in w bits
-pub mask : (w n : ℕ) → n < w → 1 * 2 ^ n % 2 ^ w ≡ 2 ^ n
-mask w n h = let p : 1 * 2 ^ n ≡ 2 ^ n = omega arith in shl-exact 1 n w (omega arith) (omega arith) ∙ p
-
 pub mask-pos : (n : ℕ) → n ≤ 32 → 0 < 1 * 2 ^ n % 2 ^ 64
 mask-pos n h = omega (arith, mask 64 n (omega arith), pow-pos n)
 

@@ -16,17 +16,13 @@ use Rattle.standard.specs.BitsLaws.{field-bits, flag-bits, fieldAt-cut}
 use Rattle.standard.specs.Record.{gainOf, compressWidth, recordWidth, scaleAt, count1At, preflagOf, blockOf, longOf, switchedOf, recordIn, recordOf}
 use Rattle.standard.specs.declared.SlotRecord.{SlotRecord}
 use Rattle.standard.specs.declared.Refusal.the-variants.{TooManyPairs, ForbiddenBlock, MixedBlock}
+use Rattle.records.proofs.Widths.{width}
 use Rattle.side_info.specs.declared.record.Common.{Common}
 use Rattle.side_info.specs.Parts.{commonOf, recordBits, PartsAt}
 
 pub zero-gain : ofBits binary32 0 ≡ gainOf 0
 unfolding ofBits ofInt
 zero-gain = refl
-
--- the window's bits end before the last two flags
-pub width : (mpeg1 : Bool) → (54 + compressWidth mpeg1 ≤ recordWidth mpeg1) × (compressWidth mpeg1 ≤ 9) × (recordWidth mpeg1 ≤ 63)
-width true = (omega arith, omega arith, omega arith)
-width false = (omega arith, omega arith, omega arith)
 
 -- n bits that stand at j of a number, with m bits after them, and at k of the record
 pub cut : (mpeg1 : Bool) (s : List ℕ) (at a j n m k : ℕ) {v : ℕ} → v ≡ fieldAt s a (j + n + m) → a + j ≡ at + k → k + n ≤ recordWidth mpeg1 → v / 2 ^ m % 2 ^ n ≡ field (recordBits mpeg1 s at) k n

@@ -3,5 +3,3 @@ pub mod Given
 pub mod Fields
 pub mod Loops
 pub mod Sides
-pub mod Gains
-pub mod Tests

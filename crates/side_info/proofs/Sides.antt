@@ -21,8 +21,8 @@ use Rattle.standard.specs.declared.Refusal.{Refusal}
 use Rattle.standard.specs.declared.Refusal.the-variants.{AbsentBytes, MadeUpRecord}
 use Rattle.standard.specs.declared.Verdict.{Verdict}
 use Rattle.standard.specs.declared.Verdict.the-variants.{Accepted, Refused}
-use Rattle.side_info.specs.declared.layout.Layout.{Layout}
-use Rattle.side_info.specs.Layouts.{layoutOf}
+use Rattle.records.specs.declared.layout.Layout.{Layout}
+use Rattle.records.specs.Layouts.{layoutOf}
 use Rattle.side_info.specs.Parts.{Gives, filled}
 use Rattle.side_info.proofs.Given.{same-refusal, given-none, given-told}
 

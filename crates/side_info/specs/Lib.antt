@@ -1,3 +1,2 @@
 -- What the helpers' contracts say beside the definition.
 pub mod Parts
-pub mod Layouts

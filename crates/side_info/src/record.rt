@@ -2,6 +2,9 @@
 // Only scalefac_compress and what comes after the window differ between the versions.
 use crate::words::word;
 use bits::bit;
+use records::given::compress_width;
+use records::given::first_region;
+use records::given::second_region;
 use standard::BlockType;
 use standard::Refusal;
 use standard::SlotRecord;
@@ -13,7 +16,7 @@ ghost use Prim.Native.Nat.{ℕ, _+_, _≤_, _<_};
 ghost use Rattle.standard.specs.Told.{told, verdictOf};
 ghost use Rattle.standard.specs.Bits.{field};
 ghost use Rattle.standard.specs.Refusals.{toldVerdict};
-ghost use Rattle.standard.specs.Record.{absent, blockOf, compressWidth, recordWidth, longOf, switchedOf, recordOf, preflagOf, region0Of, region1Of};
+ghost use Rattle.standard.specs.Record.{absent, blockOf, compressWidth, recordWidth, longOf, switchedOf, recordOf, preflagOf};
 ghost use Rattle.side_info.specs.Parts.{commonOf, recordBits, PartsAt, Gives};
 
 // What every record has, whatever its window.
@@ -31,16 +34,6 @@ pub(crate) struct Common {
 pub(crate) struct RecordAnswer {
     pub verdict: Verdict,
     pub slot: SlotRecord,
-}
-
-// The width of scalefac_compress.
-pub(crate) fn compress_width(mpeg1: bool) -> usize
-    ensures { λ r. ⌜ r ≡ compressWidth mpeg1 ⌝ }
-{
-    if mpeg1 {
-        return 4;
-    }
-    9
 }
 
 pub(crate) fn record_width(mpeg1: bool) -> usize
@@ -62,29 +55,6 @@ pub(crate) fn block_of(t: u64) -> BlockType
         1 => BlockType::Start,
         2 => BlockType::Short,
         _ => BlockType::End,
-    }
-}
-
-// The region counts that a switched block is given.
-pub(crate) fn first_region(k: BlockType) -> u8
-    ensures { λ r. ⌜ r ≡ region0Of k ⌝ }
-{
-    match k {
-        BlockType::Long => 7,
-        BlockType::Start => 7,
-        BlockType::Short => 8,
-        BlockType::End => 7,
-    }
-}
-
-pub(crate) fn second_region(k: BlockType) -> u8
-    ensures { λ r. ⌜ r ≡ region1Of k ⌝ }
-{
-    match k {
-        BlockType::Long => 13,
-        BlockType::Start => 13,
-        BlockType::Short => 12,
-        BlockType::End => 13,
     }
 }
 

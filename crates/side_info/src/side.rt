@@ -1,9 +1,9 @@
 // A frame's side information from its bits. Places are small here: no sum of them wraps.
-use crate::layout::layout_of;
 use crate::record::absent_record;
-use crate::records::read_records;
+use crate::slot_records::read_records;
 use crate::words::word;
 use bits::bit;
+use records::layout::layout_of;
 use standard::Refusal;
 use standard::SideInfo;
 use standard::SideInfoAnswer;

@@ -3,14 +3,16 @@
 use mathlib.Core.Path.{refl, sym, ap, _∙_, subst}
 use denote.Ref.{now}
 use lib.ListN.{length, take}
-use Rattle.standard.specs.Refusals.{toldHeader}
+use Rattle.standard.specs.Refusals.{refuse, toldHeader}
 use Rattle.standard.specs.Frame.{FrameRead}
 use Rattle.standard.specs.FrameLaws.{call-few-bytes, call-much-stated, call-few-numbers, call-fits, step-refused, frame-no-header}
+use Rattle.frame.specs.Reasons.{reasonOf}
 use borrow.Author.Needs.{needs}
 use Rattle.frame.proofs.process_frame.Statement.{statement}
 use Rattle.frame.proofs.process_frame.Tie as tie
 use Rattle.frame.proofs.process_frame.Reads as reads
 use Rattle.frame.proofs.process_frame.Lts as lts
+use Rattle.frame.proofs.refusal_of.Reads as refusal-of-reads
 use Rattle.frame.proofs.refused.Reads as refused-reads
 use Rattle.frame.proofs.with_header.Reads as with-header-reads
 use Rattle.header.proofs.read_frame_header.Reads as read-frame-header-reads
@@ -36,23 +38,28 @@ returns-3 c = step-refused (call-few-numbers _ _ _ _ (c .before .if3 .taken)) (c
 read-frame-header-requires : tie.Need-read-frame-header-requires
 read-frame-header-requires c κs = search needs
 
-enum-known-why : tie.Need-enum-known-why
-enum-known-why c = search needs
+enum-known-a : tie.Need-enum-known-a
+enum-known-a c = search needs
+
+enum-told : tie.Need-enum-told
+enum-told c = search needs
+
+refusal-of-requires : tie.Need-refusal-of-requires
+refusal-of-requires c κs = search needs
 
 refused-requires-4 : tie.Need-refused-requires-4
 refused-requires-4 c κs = search needs
 
-enum-known-h : tie.Need-enum-known-h
-enum-known-h c = search needs
-
-with-header-requires : tie.Need-with-header-requires
-with-header-requires c κs = (c .before .before .before .before .before .before .before .before .before .if1 .left, c .before .before .before .before .before .before .before .if2 .left, c .before .before .before .before .before .before .if3 .left, sym (c .before .before .before .before .before .read-frame-header .ensures) ∙ ap toldHeader (c .before .before .before .h .given .1))
-
 returns-4 : tie.Need-returns-4
 returns-4 c =
+    let told-is = c .before .before .enum-told .given .1 in
+    let no-header = sym (c .before .before .before .before .read-frame-header .ensures) ∙ ap toldHeader told-is ∙ sym (ap refuse (c .before .refusal-of .ensures ∙ ap reasonOf told-is)) in
     step-refused
-    (call-fits _ _ _ _ (c .before .before .before .before .before .before .before .before .if1 .left) (c .before .before .before .before .before .before .if2 .left) (c .before .before .before .before .before .if3 .left) ∙ frame-no-header _ _ (sym (c .before .before .before .before .read-frame-header .ensures) ∙ ap toldHeader (c .before .before .why .given .1)))
+    (call-fits _ _ _ _ (c .before .before .before .before .before .before .before .before .if1 .left) (c .before .before .before .before .before .before .if2 .left) (c .before .before .before .before .before .if3 .left) ∙ frame-no-header _ _ no-header)
     (c .refused4 .ensures) refl refl
+
+with-header-requires : tie.Need-with-header-requires
+with-header-requires c κs = (c .before .before .before .before .before .before .before .before .before .if1 .left, c .before .before .before .before .before .before .before .if2 .left, c .before .before .before .before .before .before .if3 .left, sym (c .before .before .before .before .before .read-frame-header .ensures) ∙ ap toldHeader (c .before .before .before .a .given .1))
 
 same-length : tie.Need-same-length
 same-length c = search needs
@@ -77,11 +84,12 @@ process-frame-spec =
     refused-requires-3
     returns-3
     read-frame-header-requires
-    enum-known-why
+    enum-known-a
+    enum-told
+    refusal-of-requires
     refused-requires-4
-    enum-known-h
-    with-header-requires
     returns-4
+    with-header-requires
     same-length
     same-length-2
     returns-5)

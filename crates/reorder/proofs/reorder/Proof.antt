@@ -12,9 +12,9 @@ use Rattle.reorder.proofs.reorder.Tie as tie
 use Rattle.reorder.proofs.reorder.Reads as reads
 use Rattle.reorder.proofs.reorder.Lts as lts
 use Rattle.header.proofs.is_header.Reads as is-header-reads
-use Rattle.reorder.proofs.is_short.Reads as is-short-reads
+use Rattle.sizes.proofs.is_short.Reads as is-short-reads
 use Rattle.reorder.proofs.reorder_short.Reads as reorder-short-reads
-use Rattle.side_info.proofs.is_record.Reads as is-record-reads
+use Rattle.records.proofs.is_record.Reads as is-record-reads
 
 returns : tie.Need-returns
 returns c = answers-refused (few-numbers _ _ _ (c .if1 .taken))

@@ -8,7 +8,7 @@ use Rattle.main_data.proofs.setting.shares_nothing.Statement.{statement
 use Rattle.main_data.proofs.setting.shares_nothing.Tie as tie
 use Rattle.main_data.proofs.setting.shares_nothing.Reads as reads
 use Rattle.main_data.proofs.setting.shares_nothing.Lts as lts
-use Rattle.main_data.proofs.setting.is_short.Reads as is-short-reads
+use Rattle.sizes.proofs.is_short.Reads as is-short-reads
 
 returns : tie.Need-returns
 returns c = sym (ap (λ (x : Bool). x || isShort (c .before .args .b)) (lt-ltb _ _ (c .if1 .taken)))

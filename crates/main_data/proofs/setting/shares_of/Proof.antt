@@ -9,7 +9,7 @@ use Rattle.main_data.proofs.setting.shares_of.Statement.{statement}
 use Rattle.main_data.proofs.setting.shares_of.Tie as tie
 use Rattle.main_data.proofs.setting.shares_of.Reads as reads
 use Rattle.main_data.proofs.setting.shares_of.Lts as lts
-use Rattle.header.proofs.channel_count.Reads as channel-count-reads
+use Rattle.sizes.proofs.channel_count.Reads as channel-count-reads
 use Rattle.main_data.proofs.setting.shares_nothing.Reads as shares-nothing-reads
 
 channel-count-requires : tie.Need-channel-count-requires

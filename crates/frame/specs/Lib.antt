@@ -1,0 +1,2 @@
+-- What the helpers' contracts say beside the definition.
+pub mod Reasons

@@ -1,0 +1,3 @@
+pub mod Widths
+pub mod Gains
+pub mod Tests

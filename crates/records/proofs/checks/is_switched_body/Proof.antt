@@ -1,0 +1,32 @@
+-- `records::checks::is_switched_body` meets its contract: the definition's tests, the regions being those of the block type.
+-- Assumes nothing.
+use borrow.Author.Needs.{needs}
+use Rattle.standard.specs.Record.{isSwitchedBody}
+use Rattle.records.proofs.checks.is_switched_body.Statement.{statement}
+use Rattle.records.proofs.checks.is_switched_body.Tie as tie
+
+tables-below-requires : tie.Need-tables-below-requires
+tables-below-requires c κs = search needs
+
+gains-below-requires : tie.Need-gains-below-requires
+gains-below-requires c κs = search needs
+
+first-region-requires : tie.Need-first-region-requires
+first-region-requires c κs = search needs
+
+second-region-requires : tie.Need-second-region-requires
+second-region-requires c κs = search needs
+
+returns : tie.Need-returns
+unfolding isSwitchedBody
+returns c = cc
+
+pub is-switched-body-spec : {M : Type 1} → statement M
+is-switched-body-spec =
+    tie.close
+    (tie.spec
+    tables-below-requires
+    gains-below-requires
+    first-region-requires
+    second-region-requires
+    returns)

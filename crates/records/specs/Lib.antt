@@ -1,0 +1,2 @@
+-- What the layout's contract says beside the definition.
+pub mod Layouts
