@@ -18,11 +18,11 @@ use Rattle.standard.specs.declared.Refusal.the-variants.{NoCodeword}
 use Rattle.standard.specs.declared.Pair.{Pair}
 use Rattle.standard.specs.declared.Pair.the-variants.{NoPair, Two}
 use Rattle.standard.specs.declared.Quad.the-variants.{Four, Dropped, NoQuad}
-use Rattle.tables.specs.Walk.{lookedUp}
+use Rattle.codes.specs.Walk.{lookedUp}
 use Rattle.huffman.specs.Runs.{pairsSaid, PairsRead, Says, NumbersRead}
 use Rattle.huffman.specs.declared.runs.Ended.the-variants.{At, Halted}
 use Rattle.huffman.specs.declared.HuffmanAnswer.the-variants.{Counted, Uncounted}
-use Rattle.huffman.proofs.Within.{pair-within, quad-within}
+use Rattle.pairs.proofs.Within.{pair-within, quad-within}
 
 -- ---- a run that stores some numbers at a time
 -- lists that are the same from i on are so from any later place on

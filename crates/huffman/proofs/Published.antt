@@ -6,9 +6,9 @@ use mathlib.Core.List.{List}
 use Prim.Native.Nat.{ℕ}
 use Rattle.standard.specs.Codes.{wordOf}
 use Rattle.standard.specs.Numbers.{numbersOf}
-use Rattle.tables.specs.Flat.{trees}
-use Rattle.tables.specs.Walk.{lookedUp}
-use Rattle.tables.proofs.Shown.{looked-up}
+use Rattle.codes.specs.Flat.{trees}
+use Rattle.codes.specs.Walk.{lookedUp}
+use Rattle.codes.proofs.Shown.{looked-up}
 
 pub published-reader : lookedUp trees ≡ wordOf
 unfolding wordOf

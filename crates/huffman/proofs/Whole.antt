@@ -18,7 +18,7 @@ use Rattle.standard.specs.declared.Refusal.{Refusal}
 use Rattle.standard.specs.declared.Refusal.the-variants.{RegionOverrun}
 use Rattle.standard.specs.declared.Regions.{Regions}
 use Rattle.standard.specs.declared.Regions.the-variants.{Split, NoRegions}
-use Rattle.tables.specs.Walk.{lookedUp}
+use Rattle.codes.specs.Walk.{lookedUp}
 use Rattle.huffman.specs.Slot.{countOf, numbersAfter}
 use Rattle.huffman.specs.Runs.{pairsSaid, PairsRead, Filled, Says, NumbersRead}
 use Rattle.huffman.specs.declared.runs.Ended.{Ended}

@@ -1,11 +1,10 @@
 // A slot's numbers, from the bits after its scale factors: regions, pairs, quads.
 mod runs;
-mod signed;
-mod words;
 
 use runs::Ended;
 use runs::read_pairs;
 use runs::read_quads;
+use sizes::is_short;
 use standard::BlockType;
 use standard::Refusal;
 use standard::Regions;
@@ -19,9 +18,9 @@ ghost use lib.Dec.{ltb};
 ghost use lib.ListN.{length};
 ghost use lib.Seq.{paste};
 ghost use Rattle.standard.specs.Bits.{window};
-ghost use Rattle.standard.specs.Record.{isShort, isLong};
+ghost use Rattle.standard.specs.Record.{isLong};
 ghost use Rattle.standard.specs.Numbers.{quadTable, regionsOf, numbersOf};
-ghost use Rattle.tables.specs.Walk.{lookedUp};
+ghost use Rattle.codes.specs.Walk.{lookedUp};
 ghost use Rattle.huffman.specs.Slot.{slotNumbers, toldCount, countOf, numbersAfter};
 ghost use Rattle.huffman.specs.Runs.{NumbersRead};
 
@@ -29,17 +28,6 @@ ghost use Rattle.huffman.specs.Runs.{NumbersRead};
 pub enum HuffmanAnswer {
     Counted { count: u16 },
     Uncounted(Refusal),
-}
-
-fn is_short(block: BlockType) -> bool
-    ensures { λ r. ⌜ r ≡ isShort block ⌝ }
-{
-    match block {
-        BlockType::Short => true,
-        BlockType::Long => false,
-        BlockType::Start => false,
-        BlockType::End => false,
-    }
 }
 
 // Whether there is no band to change at: the region counts of a block that is not switched are read, and may sum up to more.

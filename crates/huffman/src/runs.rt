@@ -1,7 +1,7 @@
 // Pairs and quads one after the other, into lent numbers: whole ones only, so that nothing of a dropped quad can be left.
 use crate::HuffmanAnswer;
-use crate::words::pair;
-use crate::words::quad;
+use pairs::pair;
+use pairs::quad;
 use standard::Pair;
 use standard::Quad;
 use standard::Refusal;
@@ -10,7 +10,7 @@ ghost use Prim.Native.Nat.{_-_, _/_, _≤_};
 ghost use lib.ListN.{length, take};
 ghost use Rattle.standard.specs.Bits.{window};
 ghost use Rattle.standard.specs.Numbers.{tableAt, pairs, prepend, quads};
-ghost use Rattle.tables.specs.Walk.{lookedUp};
+ghost use Rattle.codes.specs.Walk.{lookedUp};
 ghost use Rattle.huffman.specs.Runs.{PairsRead, NumbersRead};
 
 // How the pairs of a slot ended: all are read, and the bits after them start at a place; or one refused the slot.

@@ -24,8 +24,8 @@ use Rattle.standard.specs.Slots.{Outcome, stopped, anyOf, withFactors, slotBy, 
 use Rattle.huffman.specs.Slot.{slotNumbers, countOf, numbersAfter as slotLeft}
 use Rattle.huffman.specs.SlotLaws.{slot-fits}
 use Rattle.huffman.proofs.Published.{published-numbers}
-use Rattle.tables.specs.Flat.{trees}
-use Rattle.tables.specs.Walk.{lookedUp}
+use Rattle.codes.specs.Flat.{trees}
+use Rattle.codes.specs.Walk.{lookedUp}
 use Rattle.standard.specs.declared.Setting.{Setting}
 use Rattle.standard.specs.declared.SlotRecord.{SlotRecord}
 use Rattle.standard.specs.declared.SlotAnswer.{SlotAnswer}

@@ -16,7 +16,7 @@ ghost use lib.ListN.{length, getD};
 ghost use Rattle.standard.specs.Refusals.{toldOutcome, toldSlot};
 ghost use Rattle.standard.specs.SideInfo.{isSide};
 ghost use Rattle.standard.specs.Slots.{slotsOf, slotsTold, numbersFrom};
-ghost use Rattle.tables.specs.Flat.{trees};
+ghost use Rattle.codes.specs.Flat.{trees};
 ghost use Rattle.main_data.specs.Slot.{saidRefused, Mated};
 
 fn was_refused(o: SlotOutcome) -> bool

@@ -1,6 +1,7 @@
 // The slots of a frame from given main data: each cut out by the lengths before it, read, and answered.
 use crate::answers::no_slots;
 use crate::frame_slots::slots_from;
+use codes::trees::trees;
 use header::is_header;
 use records::is_side_info;
 use standard::FrameHeader;
@@ -8,7 +9,6 @@ use standard::Refusal;
 use standard::SideInfo;
 use standard::SlotsAnswer;
 use standard::Verdict;
-use tables::trees::trees;
 ghost use lib.ListN.{length};
 ghost use Rattle.standard.specs.Slots.{readSlots, SlotsRead};
 

@@ -18,7 +18,7 @@ ghost use lib.ListN.{length};
 ghost use Rattle.standard.specs.Bits.{bits};
 ghost use Rattle.standard.specs.Refusals.{toldSlot};
 ghost use Rattle.standard.specs.Slots.{anyOf, slotTold, slotIn, slotOf, numbersAfter};
-ghost use Rattle.tables.specs.Flat.{trees};
+ghost use Rattle.codes.specs.Flat.{trees};
 ghost use Rattle.main_data.specs.Slot.{SlotRead, FactorsRead};
 
 // Whether a sharing bit is set and the slot that it shares with was refused.

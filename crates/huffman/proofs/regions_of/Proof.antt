@@ -9,7 +9,7 @@ use Rattle.huffman.proofs.regions_of.Statement.{statement}
 use Rattle.huffman.proofs.regions_of.Tie as tie
 use Rattle.huffman.proofs.regions_of.Reads as reads
 use Rattle.huffman.proofs.regions_of.Lts as lts
-use Rattle.huffman.proofs.is_short.Reads as is-short-reads
+use Rattle.sizes.proofs.is_short.Reads as is-short-reads
 use Rattle.huffman.proofs.no_band.Reads as no-band-reads
 use Rattle.tables.proofs.bands.long_start.Reads as long-start-reads
 

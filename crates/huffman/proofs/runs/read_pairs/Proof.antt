@@ -8,8 +8,8 @@ use mir.Val.{SFits}
 use mir.ValLaws.{toZ-ofZ}
 use Rattle.standard.specs.Bits.{window}
 use Rattle.standard.specs.Numbers.{tableAt, pairs}
-use Rattle.tables.specs.Walk.{lookedUp}
-use Rattle.huffman.proofs.Within.{pair-within}
+use Rattle.codes.specs.Walk.{lookedUp}
+use Rattle.pairs.proofs.Within.{pair-within}
 use Rattle.huffman.proofs.Filling.{PairLoop, pair-begin, pair-halt, pair-turn, pair-end}
 use borrow.Author.Needs.{needs}
 use Rattle.huffman.proofs.runs.read_pairs.Statement.{statement}
@@ -17,7 +17,7 @@ use Rattle.huffman.proofs.runs.read_pairs.Tie as tie
 use Rattle.huffman.proofs.runs.read_pairs.Reads as reads
 use Rattle.huffman.proofs.runs.read_pairs.Lts as lts
 use Rattle.huffman.proofs.runs.table_at.Reads as table-at-reads
-use Rattle.huffman.proofs.words.pair.Reads as pair-reads
+use Rattle.pairs.proofs.pair.Reads as pair-reads
 
 abbrev Inv-loop : tie.InvT-loop
 Inv-loop trees first second tables n s start end out₀ at₀ i₀ k₀ out at i k =

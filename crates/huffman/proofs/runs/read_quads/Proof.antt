@@ -9,15 +9,15 @@ use mir.Val.{SFits}
 use mir.ValLaws.{toZ-ofZ}
 use Rattle.standard.specs.Bits.{window}
 use Rattle.standard.specs.Numbers.{prepend, quads}
-use Rattle.tables.specs.Walk.{lookedUp}
-use Rattle.huffman.proofs.Within.{quad-within}
+use Rattle.codes.specs.Walk.{lookedUp}
+use Rattle.pairs.proofs.Within.{quad-within}
 use Rattle.huffman.proofs.Filling.{QuadLoop, quad-begin, quad-full, quad-dropped, quad-halt, quad-turn}
 use borrow.Author.Needs.{needs}
 use Rattle.huffman.proofs.runs.read_quads.Statement.{statement}
 use Rattle.huffman.proofs.runs.read_quads.Tie as tie
 use Rattle.huffman.proofs.runs.read_quads.Reads as reads
 use Rattle.huffman.proofs.runs.read_quads.Lts as lts
-use Rattle.huffman.proofs.words.quad.Reads as quad-reads
+use Rattle.pairs.proofs.quad.Reads as quad-reads
 
 abbrev Inv-loop : tie.InvT-loop
 Inv-loop trees table s start end from out₀ at₀ i₀ out at i =
