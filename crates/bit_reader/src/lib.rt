@@ -10,15 +10,16 @@ pub struct BitReader<'a> {
     pub at: usize,
 }
 
-// The place n bits on.
+const LARGEST: usize = 18446744073709551615;
+
+// The place n bits on, or the largest where that lies past it.
 fn past_bits(at: usize, n: usize) -> usize
     ensures { λ r. ⌜ r ≡ past at n ⌝ }
 {
-    let left = 18446744073709551615 - at;
-    if n < left {
+    if n < LARGEST - at {
         return at + n;
     }
-    18446744073709551615
+    LARGEST
 }
 
 // A reader at the first bit.
