@@ -3,6 +3,7 @@
 use header::read_frame_header;
 use libc::STDIN_FILENO;
 use libc::STDOUT_FILENO;
+use refusals::number_of;
 use side_info::read_side_info;
 use sizes::frame_length;
 use sizes::main_size;
@@ -10,40 +11,10 @@ use standard::FrameHeader;
 use standard::HeaderAnswer;
 use standard::Refusal;
 use standard::Verdict;
-ghost use mathlib.Core.Path.{_≡_};
-ghost use Rattle.standard.specs.Refusals.{numberOf};
-
-// The number of a refusal.
-fn number_of(why: Refusal) -> u64
-    ensures { λ r. ⌜ r ≡ numberOf why ⌝ }
-{
-    match why {
-        Refusal::UnfitMemory => 1,
-        Refusal::MadeUpRecord => 14,
-        Refusal::AbsentBytes => 2,
-        Refusal::NoSync => 3,
-        Refusal::ReservedVersion => 4,
-        Refusal::ReservedLayer => 5,
-        Refusal::OtherLayer => 6,
-        Refusal::FreeBitrate => 7,
-        Refusal::ForbiddenRate => 8,
-        Refusal::ReservedEmphasis => 9,
-        Refusal::TooManyPairs => 10,
-        Refusal::ForbiddenBlock => 11,
-        Refusal::MixedBlock => 12,
-        Refusal::ShortReservoir => 13,
-        Refusal::MissingBits => 20,
-        Refusal::FactorOverrun => 21,
-        Refusal::LostShare => 22,
-        Refusal::RegionOverrun => 23,
-        Refusal::PairOverrun => 24,
-        Refusal::NoCodeword => 25,
-    }
-}
 
 fn say_refused(why: Refusal) {
     io::write_all(STDOUT_FILENO, b"frame 1 refused ");
-    io::print_decimal(STDOUT_FILENO, number_of(why));
+    io::print_decimal(STDOUT_FILENO, number_of(why) as u64);
     io::write_all(STDOUT_FILENO, b"\n");
 }
 

@@ -13,7 +13,7 @@ ghost use Rattle.standard.specs.Record.{gainNumber, gainBelow, trio, below, isL
 ghost use Rattle.standard.specs.SideInfo.{isAbsent, areShares, areSlots, isSideBy};
 
 // The number of a gain, 0 to 7, or 8 where it is none: by its pattern, since -0.0 is not 0.0.
-pub(crate) fn gain_number(g: f32) -> u8
+pub fn gain_number(g: f32) -> u8
     ensures { λ r. ⌜ r ≡ gainNumber g ⌝ }
 {
     if g != g {

@@ -11,7 +11,7 @@ ghost use Rattle.standard.specs.Header.{isMpeg1};
 ghost use Rattle.standard.specs.Record.{isRecord};
 ghost use Rattle.standard.specs.SideInfo.{isSide};
 
-mod checks;
+pub mod checks;
 pub mod given;
 pub mod layout;
 

@@ -3,10 +3,9 @@ use standard::Refusal;
 use standard::Reservoir;
 use standard::ReservoirAnswer;
 use standard::Verdict;
+use window::put;
+use window::slide;
 ghost use mathlib.Core.Path.{_≡_};
-ghost use Prim.Native.Nat.{_+_, _≤_};
-ghost use lib.ListN.{length, drop};
-ghost use lib.Seq.{paste};
 ghost use Rattle.standard.specs.Reservoir.{turnIn, Turned, «emptied»};
 
 // Bytes a reader lends for the reservoir, at least.
@@ -17,29 +16,6 @@ pub fn emptied() -> Reservoir
     ensures { λ r. ⌜ r ≡ «emptied» ⌝ }
 {
     Reservoir { length: 0 }
-}
-
-// The n bytes from a place on are moved to the front. The place is not before the front, so going forward none is lost.
-fn slide(bytes: &mut [u8], from: usize, n: usize)
-    requires { ⌜ from + n ≤ length (now bytes) ⌝ }
-    ensures { λ _. ⌜ now (bytes .exit) ≡ paste (now (bytes .entry)) 0 (drop from (now (bytes .entry))) n ⌝ }
-{
-    let mut i = 0usize;
-    while i < n {
-        bytes[i] = bytes[from + i];
-        i += 1;
-    }
-}
-
-fn store(bytes: &mut [u8], at: usize, main: &[u8])
-    requires { ⌜ at + length (now main) ≤ length (now bytes) ⌝ }
-    ensures { λ _. ⌜ now (bytes .exit) ≡ paste (now (bytes .entry)) at (now (main .entry)) (length (now (main .entry))) ⌝ }
-{
-    let mut i = 0usize;
-    while i < main.len() {
-        bytes[at + i] = main[i];
-        i += 1;
-    }
 }
 
 fn refused(reason: Refusal, reservoir: Reservoir) -> ReservoirAnswer
@@ -71,7 +47,7 @@ pub fn turn(bytes: &mut [u8], reservoir: Reservoir, begin: u16, main: &[u8]) -> 
         return refused(Refusal::UnfitMemory, reservoir);
     }
     if stated < back {
-        store(&mut *bytes, stated, main);
+        put(&mut *bytes, stated, main);
         return refused(
             Refusal::ShortReservoir,
             Reservoir {
@@ -80,7 +56,7 @@ pub fn turn(bytes: &mut [u8], reservoir: Reservoir, begin: u16, main: &[u8]) -> 
         );
     }
     slide(&mut *bytes, stated - back, back);
-    store(&mut *bytes, back, main);
+    put(&mut *bytes, back, main);
     ReservoirAnswer {
         verdict: Verdict::Accepted,
         reservoir: Reservoir {

@@ -1,4 +1,4 @@
--- `reservoir::turn` meets its contract: each test is one of the turn's sizes, and the bytes stored are those that the turn keeps.
+-- `reservoir::turn` meets its contract: each test is one of the turn's sizes, and the bytes putd are those that the turn keeps.
 -- Assumes nothing.
 use mathlib.Core.Path.{_≡_, refl, sym, ap, _∙_}
 use mathlib.Core.List.{List}
@@ -10,14 +10,15 @@ use lib.Seq.{paste}
 use Rattle.standard.specs.Refusals.{toldVerdict}
 use Rattle.standard.specs.Reservoir.{turnKept, turnVerdict}
 use Rattle.standard.specs.ReservoirLaws.{few-lent, much-stated, too-long, short-turn, reached-turn, short-bytes, short-length, reached-length, reached-bytes, unfit-turned, changed-turned}
+use Rattle.window.specs.WindowLaws.{put-whole, slid-whole}
 use borrow.Author.Needs.{needs}
 use Rattle.reservoir.proofs.turn.Statement.{statement}
 use Rattle.reservoir.proofs.turn.Tie as tie
 use Rattle.reservoir.proofs.turn.Reads as reads
 use Rattle.reservoir.proofs.turn.Lts as lts
 use Rattle.reservoir.proofs.refused.Reads as refused-reads
-use Rattle.reservoir.proofs.slide.Reads as slide-reads
-use Rattle.reservoir.proofs.store.Reads as store-reads
+use Rattle.window.proofs.slide.Reads as slide-reads
+use Rattle.window.proofs.put.Reads as put-reads
 
 refused-requires : tie.Need-refused-requires
 refused-requires c κs = search needs
@@ -49,11 +50,11 @@ refused-requires-4 c κs = search needs
 returns-4 : tie.Need-returns-4
 returns-4 c = unfit-turned (too-long _ _ _ _ (c .before .if4 .taken)) (c .refused4 .ensures) refl
 
-store-requires : tie.Need-store-requires
-store-requires c κs = search needs
+put-requires : tie.Need-put-requires
+put-requires c κs = search needs
 
-add-t19 : tie.Need-add-t19
-add-t19 c = search needs
+add-t18 : tie.Need-add-t18
+add-t18 c = search needs
 
 refused-requires-5 : tie.Need-refused-requires-5
 refused-requires-5 c κs = search needs
@@ -73,16 +74,16 @@ returns-5 c =
     let fits : a .begin + length main ≤ 4096 = omega arith in
     changed-turned (short-turn lent stated (a .begin) main lent-fits stated-fits fits (omega arith)) refl (ap toldVerdict (c .refused5 .ensures .0))
     (c .refused5 .ensures .1) (short-length lent stated (a .begin) main lent-fits stated-fits fits)
-    (c .before .before .before .store .ensures ∙ short-bytes lent stated (a .begin) main lent-fits stated-fits fits)
+    (put-whole (c .before .before .before .put .ensures) (omega arith) ∙ short-bytes lent stated (a .begin) main lent-fits stated-fits fits)
 
 slide-requires : tie.Need-slide-requires
 slide-requires c κs = search needs
 
-store-requires-2 : tie.Need-store-requires-2
-store-requires-2 c κs = search needs
+put-requires-2 : tie.Need-put-requires-2
+put-requires-2 c κs = search needs
 
-add-t7 : tie.Need-add-t7
-add-t7 c = search needs
+add-t12 : tie.Need-add-t12
+add-t12 c = search needs
 
 same-length-2 : tie.Need-same-length-2
 same-length-2 c = search needs
@@ -100,7 +101,7 @@ returns-6 c =
     let reach : a .begin ≤ stated = omega arith in
     changed-turned (reached-turn lent stated (a .begin) main lent-fits stated-fits fits reach) refl refl
     refl (reached-length lent stated (a .begin) main lent-fits stated-fits fits reach)
-    (c .before .before .store2 .ensures ∙ ap (λ (x : List ℕ). paste x (a .begin) main (length main)) (c .before .before .before .before .before .before .slide .ensures) ∙ reached-bytes lent stated (a .begin) main lent-fits stated-fits fits reach)
+    (put-whole (c .before .before .put2 .ensures) (omega arith) ∙ ap (λ (x : List ℕ). paste x (a .begin) main (length main)) (c .before .before .before .before .before .before .slide .ensures ∙ slid-whole lent (stated - a .begin) (a .begin) (omega arith)) ∙ reached-bytes lent stated (a .begin) main lent-fits stated-fits fits reach)
 
 pub turn-spec : {M : Type 1} → statement M
 turn-spec =
@@ -115,13 +116,13 @@ turn-spec =
     add-if4
     refused-requires-4
     returns-4
-    store-requires
-    add-t19
+    put-requires
+    add-t18
     refused-requires-5
     same-length
     returns-5
     slide-requires
-    store-requires-2
-    add-t7
+    put-requires-2
+    add-t12
     same-length-2
     returns-6)

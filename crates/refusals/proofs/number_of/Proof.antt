@@ -1,9 +1,9 @@
--- `number_of` meets its contract: in each arm the refusal is the arm's, and the definition computes at it. Assumes nothing.
+-- `refusals::number_of` meets its contract: in each arm the refusal is the arm's, and the definition computes at it. Assumes nothing.
 use mathlib.Core.Path.{sym, ap}
 use borrow.Author.Needs.{needs}
 use Rattle.standard.specs.Refusals.{numberOf}
-use Rattle.first_frame.proofs.number_of.Statement.{statement}
-use Rattle.first_frame.proofs.number_of.Tie as tie
+use Rattle.refusals.proofs.number_of.Statement.{statement}
+use Rattle.refusals.proofs.number_of.Tie as tie
 
 pub number-of-spec : {M : Type 1} → statement M
 number-of-spec =

@@ -1,0 +1,172 @@
+// A frame's answer as numbers, for programs that print it or hold it to another reader's: the fields of its header, its side
+// information and its slots' records, and where the next frame is tried.
+use records::checks::gain_number;
+use refusals::number_of;
+use sizes::bps;
+use sizes::hz;
+use sizes::is_intensity;
+use standard::BlockType;
+use standard::Channels;
+use standard::Emphasis;
+use standard::FrameHeader;
+use standard::MpegVersion;
+use standard::Refusal;
+use standard::SideInfo;
+use standard::SlotRecord;
+use standard::Verdict;
+ghost use mathlib.Core.Path.{_≡_};
+ghost use Rattle.fields.specs.Values.{bitOf, versionNumber, modeNumber, isMidSide, emphasisNumber, blockNumber, headerValues, sideValues, recordValues, isTold, stepOf};
+
+fn bit_of(b: bool) -> u64
+    ensures { λ r. ⌜ r ≡ bitOf b ⌝ }
+{
+    if b { 1 } else { 0 }
+}
+
+fn wide(n: u8) -> u64
+    ensures { λ r. ⌜ r ≡ n ⌝ }
+{
+    n as u64
+}
+
+fn version_number(v: MpegVersion) -> u64
+    ensures { λ r. ⌜ r ≡ versionNumber v ⌝ }
+{
+    match v {
+        MpegVersion::Mpeg1 => 1,
+        MpegVersion::Mpeg2 => 2,
+        MpegVersion::Mpeg25 => 25,
+    }
+}
+
+fn mode_number(c: Channels) -> u64
+    ensures { λ r. ⌜ r ≡ modeNumber c ⌝ }
+{
+    match c {
+        Channels::Mono => 3,
+        Channels::DualMono => 2,
+        Channels::Stereo => 0,
+        Channels::JointStereo {
+            intensity: _,
+            mid_side: _,
+        } => 1,
+    }
+}
+
+fn is_mid_side(c: Channels) -> bool
+    ensures { λ r. ⌜ r ≡ isMidSide c ⌝ }
+{
+    match c {
+        Channels::Mono => false,
+        Channels::DualMono => false,
+        Channels::Stereo => false,
+        Channels::JointStereo {
+            intensity: _,
+            mid_side,
+        } => mid_side,
+    }
+}
+
+fn emphasis_number(e: Emphasis) -> u64
+    ensures { λ r. ⌜ r ≡ emphasisNumber e ⌝ }
+{
+    match e {
+        Emphasis::NoEmphasis => 0,
+        Emphasis::FiftyFifteen => 1,
+        Emphasis::CcitJ17 => 3,
+    }
+}
+
+fn block_number(b: BlockType) -> u64
+    ensures { λ r. ⌜ r ≡ blockNumber b ⌝ }
+{
+    match b {
+        BlockType::Long => 0,
+        BlockType::Start => 1,
+        BlockType::Short => 2,
+        BlockType::End => 3,
+    }
+}
+
+pub fn header_values(h: FrameHeader) -> [u64; 11]
+    ensures { λ r. ⌜ r ≡ headerValues h ⌝ }
+{
+    let version = h.version;
+    let bitrate = h.bitrate;
+    let rate = h.rate;
+    let channels = h.channels;
+    let emphasis = h.emphasis;
+    [
+        version_number(version),
+        bit_of(h.crc),
+        bps(bitrate) as u64,
+        hz(rate) as u64,
+        bit_of(h.padding),
+        mode_number(channels),
+        bit_of(is_mid_side(channels)),
+        bit_of(is_intensity(channels)),
+        bit_of(h.copyright),
+        bit_of(h.original),
+        emphasis_number(emphasis),
+    ]
+}
+
+pub fn side_values(i: SideInfo) -> [u64; 9]
+    ensures { λ r. ⌜ r ≡ sideValues i ⌝ }
+{
+    let s = i.shares;
+    [
+        i.begin as u64,
+        bit_of(s[0]),
+        bit_of(s[1]),
+        bit_of(s[2]),
+        bit_of(s[3]),
+        bit_of(s[4]),
+        bit_of(s[5]),
+        bit_of(s[6]),
+        bit_of(s[7]),
+    ]
+}
+
+pub fn record_values(r: SlotRecord) -> [u64; 16]
+    ensures { λ v. ⌜ v ≡ recordValues r ⌝ }
+{
+    let block = r.block;
+    let g = r.gains;
+    let t = r.tables;
+    [
+        r.length as u64,
+        r.pairs as u64,
+        r.gain as u64,
+        r.compress as u64,
+        block_number(block),
+        wide(gain_number(g[0])),
+        wide(gain_number(g[1])),
+        wide(gain_number(g[2])),
+        wide(t[0]),
+        wide(t[1]),
+        wide(t[2]),
+        r.region0 as u64,
+        r.region1 as u64,
+        bit_of(r.preflag),
+        bit_of(r.scale),
+        bit_of(r.count1),
+    ]
+}
+
+// Whether a frame's answer tells its header and side information.
+pub fn is_told(v: Verdict) -> bool
+    ensures { λ r. ⌜ r ≡ isTold v ⌝ }
+{
+    match v {
+        Verdict::Accepted => true,
+        Verdict::Refused(why) => number_of(why) == number_of(Refusal::ShortReservoir),
+    }
+}
+
+// How far the next try is from this one.
+pub fn step(v: Verdict, length: usize) -> usize
+    ensures { λ r. ⌜ r ≡ stepOf v length ⌝ }
+{
+    if is_told(v) { length } else { 1 }
+}
