@@ -1,7 +1,7 @@
 -- A frame's step by its stages, and what is answered at each.
 use mathlib.Core.Path.{_≡_, refl, sym, ap, _∙_}
-use mathlib.Core.Bool.{Bool, true, false, _||_}
-use mathlib.Core.List.{List, [], map, _++_}
+use mathlib.Core.Bool.{true}
+use mathlib.Core.List.{List, [], map}
 use Prim.Native.Nat.{ℕ, _+_, _≤_, _<_}
 use native.Mathlib.Omega.{arith}
 use borrow.Author.Tests.{lt-ltb, le-ltb}
@@ -9,15 +9,15 @@ use lib.Dec.{ltb}
 use lib.IntN.{ℤ}
 use lib.ListN.{length, take, drop, length-append}
 use lib.Seq.{take-at}
-use Rattle.standard.specs.Told.{Told, refused, told, toldOr, pick}
+use Rattle.standard.specs.Told.{Told, refused, told, toldOr}
 use Rattle.standard.specs.ToldLaws.{picked, passed, either-left, either-right, neither}
-use Rattle.standard.specs.Refusals.{numberOf, refuse, toldVerdict, toldSlot}
-use Rattle.standard.specs.RefusalsLaws.{apart}
+use Rattle.standard.specs.Refusals.{numberOf, toldVerdict, toldSlot}
+use Rattle.standard.specs.RefusalsLaws.{apart, one-verdict, one-slot, one-list}
 use Rattle.standard.specs.Header.{headerOf, headerSize, sideSize, mainSize, frameLength, noHeader, isHeader}
 use Rattle.standard.specs.SideInfo.{sideOf, noSide, isSide}
 use Rattle.standard.specs.Slots.{Outcome, slotsOf, slotsTold, numbersFrom, readSlots, SlotsRead}
 use Rattle.standard.specs.SlotsLaws.{read-call}
-use Rattle.standard.specs.Reservoir.{Turn, short, reached, turnOf, Kept, untouched, keeping, unfit, reservoirAfter, bytesAfter, turnVerdict, turnKept, Turned}
+use Rattle.standard.specs.Reservoir.{Turn, short, reached, turnOf, unfit, reservoirAfter, bytesAfter, turnVerdict, turnKept, Turned}
 use Rattle.standard.specs.Frame.{Step, noStep, shortStep, fullStep, withTurn, withSide, withHeader, frameOf, frameCall, FrameRead}
 use Rattle.standard.specs.declared.FrameHeader.{FrameHeader}
 use Rattle.standard.specs.declared.SideInfo.{SideInfo}
@@ -27,7 +27,7 @@ use Rattle.standard.specs.declared.SlotsAnswer.{SlotsAnswer}
 use Rattle.standard.specs.declared.FrameAnswer.{FrameAnswer}
 use Rattle.standard.specs.declared.Verdict.the-variants.{Accepted, Refused}
 use Rattle.standard.specs.declared.Refusal.{Refusal}
-use Rattle.standard.specs.declared.Refusal.the-variants.{UnfitMemory, AbsentBytes, ShortReservoir}
+use Rattle.standard.specs.declared.Refusal.the-variants.{UnfitMemory, AbsentBytes}
 
 -- ---- the call
 module _ (s lent : List ℕ) (stated d : ℕ) where
@@ -138,3 +138,18 @@ module _ {lent left : List ℕ} {old : Reservoir} {a : ReservoirAnswer} where
           bytes = u .bytes ∙ sym (ap (λ (x : Step). bytesAfter lent (x .kept)) e);
           numbers-are = z .numbers ∙ ap (λ (c : Told (List Outcome)). numbersFrom 0 (toldOr [] c) d) said ∙ sym (ap (λ (x : Step). numbersFrom 0 (x .slots) d) e);
         }
+
+-- ---- one answer and one state
+pub one-frame : {lent left gone : List ℕ} {old : Reservoir} {d nums news : List ℤ} {p : Step} {r q : FrameAnswer}
+    → FrameRead lent old d p r left nums → FrameRead lent old d p q gone news → (r ≡ q) × (left ≡ gone) × (nums ≡ news)
+one-frame {r = r} {q = q} a b =
+    let v = one-verdict (r .verdict) (q .verdict) (a .verdict ∙ sym (b .verdict)) in
+    let h = a .header ∙ sym (b .header) in
+    let i = a .info ∙ sym (b .info) in
+    let n = a .length-is ∙ sym (b .length-is) in
+    let s = one-list toldSlot one-slot (r .slots) (q .slots) (a .slots ∙ sym (b .slots)) in
+    let k = a .reservoir ∙ sym (b .reservoir) in (
+      λ j. record { verdict = v j; header = h j; info = i j; length = n j; slots = s j; reservoir = k j },
+      a .bytes ∙ sym (b .bytes),
+      a .numbers-are ∙ sym (b .numbers-are),
+    )

@@ -35,8 +35,11 @@ pub mod SideLaws
 pub mod NumbersLaws
 pub mod FactorsLaws
 pub mod SharingLaws
+pub mod HaltLaws
 pub mod SlotsLaws
+pub mod SlotBounds
 pub mod CopyLaws
 pub mod ReservoirLaws
 pub mod ReorderLaws
 pub mod FrameLaws
+pub mod StepLaws

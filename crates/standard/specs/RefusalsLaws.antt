@@ -5,7 +5,7 @@ use Prim.Native.Nat.{ℕ}
 use native.Mathlib.Omega.{arith}
 use lib.ListN.{getD}
 use Rattle.standard.specs.Told.{Told, refused, told, toldOr, verdictOf}
-use Rattle.standard.specs.Refusals.{numberOf, refuse, toldVerdict, toldHeader, SlotSaid, lacking, refusedBy, counted, toldOutcome, SlotTold, toldSlot, Answers}
+use Rattle.standard.specs.Refusals.{numberOf, refuse, toldVerdict, toldHeader, toldOutcome, SlotTold, toldSlot, Answers}
 use Rattle.standard.specs.declared.Refusal.{Refusal}
 use Rattle.standard.specs.declared.Refusal.the-variants.{UnfitMemory, MadeUpRecord, AbsentBytes, NoSync, ReservedVersion, ReservedLayer, OtherLayer, FreeBitrate, ForbiddenRate, ReservedEmphasis, TooManyPairs, ForbiddenBlock, MixedBlock, ShortReservoir, MissingBits, FactorOverrun, LostShare, RegionOverrun, PairOverrun, NoCodeword}
 use Rattle.standard.specs.declared.Verdict.{Verdict}

@@ -11,7 +11,7 @@ use lib.IntN.{ℤ, pos}
 use lib.ListN.{length, getD, take, drop, take-append-drop, drop-of-length-le}
 use lib.Seq.{drop-cons, drop-drop, drop-at, take-at}
 use Rattle.standard.specs.Bands.{rowOf, shortRows, shortStart}
-use Rattle.standard.specs.BandsLaws.{row-lt, short-within, short-past}
+use Rattle.standard.specs.BandsLaws.{row-lt}
 use Rattle.standard.specs.RowsLaws.{every, every-in, rows-long}
 use Rattle.standard.specs.Told.{told}
 use Rattle.standard.specs.ToldLaws.{never, both-of, both, picked, passed}

@@ -1,22 +1,22 @@
 -- What a frame's turn comes to by its sizes, and what storing its bytes makes of the lent memory; the reservoir never outgrows 1,931 bytes.
-use mathlib.Core.Path.{_≡_, refl, sym, ap, _∙_}
-use mathlib.Core.Bool.{Bool, true, false, _||_}
-use mathlib.Core.List.{List, [], _∷_, _++_, append-assoc}
+use mathlib.Core.Path.{_≡_, sym, ap, _∙_}
+use mathlib.Core.List.{List, _++_}
 use Prim.Native.Nat.{ℕ, _+_, _-_, _≤_, _<_}
 use native.Mathlib.Omega.{arith}
 use borrow.Author.Tests.{lt-ltb, le-ltb}
 use lib.Dec.{ltb}
-use lib.ListN.{length, take, drop, length-append, length-take, length-drop}
+use lib.ListN.{length, take, drop, length-append, length-drop}
 use lib.Seq.{paste, drop-paste, drop-drop, take-at, take-length, length-take-le}
-use Rattle.standard.specs.Told.{Told, told, pick}
+use Rattle.standard.specs.Told.{Told, told}
 use Rattle.standard.specs.ToldLaws.{picked, passed, either-left, either-right, neither}
 use Rattle.standard.specs.Refusals.{refuse, toldVerdict}
+use Rattle.standard.specs.RefusalsLaws.{one-verdict}
 use Rattle.standard.specs.CopyLaws.{take-drop}
-use Rattle.standard.specs.Reservoir.{reaching, adding, Turn, short, reached, turnOf, Kept, keeping, reservoirAfter, bytesAfter, unfit, turnIn, turnVerdict, turnKept, Turned}
+use Rattle.standard.specs.Reservoir.{reaching, adding, Turn, short, reached, turnOf, keeping, reservoirAfter, bytesAfter, unfit, turnIn, turnVerdict, turnKept, Turned}
 use Rattle.standard.specs.declared.Reservoir.{Reservoir}
 use Rattle.standard.specs.declared.ReservoirAnswer.{ReservoirAnswer}
-use Rattle.standard.specs.declared.Verdict.the-variants.{Accepted, Refused}
-use Rattle.standard.specs.declared.Refusal.the-variants.{UnfitMemory, ShortReservoir}
+use Rattle.standard.specs.declared.Verdict.the-variants.{Refused}
+use Rattle.standard.specs.declared.Refusal.the-variants.{UnfitMemory}
 
 module _ (lent : List ℕ) (stated begin : ℕ) (main : List ℕ) where
   -- ---- refused for the memory
@@ -112,3 +112,11 @@ changed-turned {lent} {old} {bs = bs} e k v a m l = record {
   reservoir = a ∙ sym (ap (λ (w : Told Turn). reservoirAfter old (turnKept w)) e ∙ ap (reservoirAfter old) k ∙ (λ j. record { length = m j }));
   bytes = l ∙ sym (ap (λ (w : Told Turn). bytesAfter lent (turnKept w)) e ∙ ap (bytesAfter lent) k);
 }
+
+-- ---- one answer and one state
+pub one-turn : {lent left gone : List ℕ} {old : Reservoir} {t : Told Turn} {r q : ReservoirAnswer} → Turned lent old t r left → Turned lent old t q gone
+    → (r ≡ q) × (left ≡ gone)
+one-turn {r = r} {q = q} a b =
+    let v = one-verdict (r .verdict) (q .verdict) (a .verdict ∙ sym (b .verdict)) in
+    let k = a .reservoir ∙ sym (b .reservoir) in
+    (λ j. record { verdict = v j; reservoir = k j }, a .bytes ∙ sym (b .bytes))

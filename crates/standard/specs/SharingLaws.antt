@@ -1,15 +1,15 @@
 -- Where nothing is shared, granule 0's factors do not matter: of a short block never, of any block where no sharing bit is in force. So a slot
 -- depends on its own bits and, only where it shares, on its channel's granule 0 slot.
 use mathlib.Core.Path.{_≡_, refl, sym, ap, _∙_}
-use mathlib.Core.Bool.{Bool, true, false, _&&_, _||_}
+use mathlib.Core.Bool.{Bool, true, false, _&&_}
 use mathlib.Core.List.{List, [], _∷_, _++_}
-use Prim.Native.Nat.{ℕ, zero, suc, _%_}
+use Prim.Native.Nat.{ℕ, zero, suc}
 use lib.Dec.{ltb}
 use lib.ListN.{length, getD, take, drop, replicate}
 use Rattle.standard.specs.Told.{pick}
 use Rattle.standard.specs.ToldLaws.{picked, passed, never, neither-of}
 use Rattle.standard.specs.Bits.{value}
-use Rattle.standard.specs.Lengths.{slen1, slen2, lowLengths, lowCounts}
+use Rattle.standard.specs.Lengths.{slen1, slen2}
 use Rattle.standard.specs.Record.{isShort}
 use Rattle.standard.specs.Factors.{Source, shared, coded, longPlan, shortPlan, lowPlan, planOf, planBits, factorsFrom}
 use Rattle.standard.specs.Codes.{wordOf}

@@ -1,13 +1,13 @@
 -- What accepted side information says of its slots: there are four records, and those of the frame's slots are small.
-use mathlib.Core.Path.{_≡_, refl, sym, ap, _∙_}
-use mathlib.Core.Bool.{Bool, true, false, _&&_}
+use mathlib.Core.Path.{_≡_}
+use mathlib.Core.Bool.{Bool, true, _&&_}
 use Prim.Native.Nat.{ℕ, _*_, _^_, _≤_, _<_}
 use borrow.Author.Tests.{eqb-true, ltb-true, leb-true}
-use lib.Dec.{eqb, ltb, leb}
+use lib.Dec.{eqb, ltb}
 use lib.ListN.{length, getD}
 use Rattle.standard.specs.ToldLaws.{both-of}
 use Rattle.standard.specs.Header.{isMpeg1, isTwo, granules, channelCount}
-use Rattle.standard.specs.Record.{absent, isRecord, isHead, isPreflag}
+use Rattle.standard.specs.Record.{absent, isRecord, isHead}
 use Rattle.standard.specs.SideInfo.{areSlots, areShares, isSideBy, isSide, fitSlots, beginWidth, slotCount, shareCount}
 use Rattle.standard.specs.SideBytes.{fit-at}
 use Rattle.standard.specs.declared.FrameHeader.{FrameHeader}

@@ -2,148 +2,42 @@
 -- same bytes with any others after them only a missing slot may come to something else, and its numbers too; and a slot's outcome depends
 -- on its own bits and, where it shares, on its channel's granule 0 slot alone.
 use mathlib.Core.Path.{_≡_, refl, sym, ap, _∙_}
-use mathlib.Core.Bool.{Bool, true, false, not, _&&_, _||_}
+use mathlib.Core.Bool.{Bool, true, false, _&&_}
 use mathlib.Core.Logic.{_↔_}
 use mathlib.Core.List.{List, [], _∷_, _++_, append-assoc, map}
 use Prim.Native.Nat.{ℕ, zero, suc, _+_, _-_, _*_, _≤_, _<_}
 use native.Mathlib.Decide.{decLe}
 use native.Mathlib.Omega.{arith}
 use borrow.Author.Tests.{le-leb, lt-leb, lt-ltb, le-ltb}
-use lib.Dec.{eqb, leb, ltb}
-use lib.IntN.{ℤ, pos}
-use lib.ListN.{length, getD, take, drop, replicate, length-append, length-replicate}
-use lib.Seq.{paste, length-paste, drop-paste, take-take, drop-drop, take-at, drop-at, length-take-le}
-use Rattle.standard.specs.Told.{Told, told, pick, toldOr, verdictOf}
+use lib.IntN.{ℤ}
+use lib.ListN.{length, getD, take, drop, replicate, length-append, length-replicate, List·getD-map}
+use lib.Seq.{length-paste, drop-paste, take-take, drop-drop, take-at, drop-at, length-take-le}
+use Rattle.standard.specs.Told.{Told, told, toldOr, verdictOf}
 use Rattle.standard.specs.ToldLaws.{picked, passed, never, both}
-use Rattle.standard.specs.Refusals.{numberOf, refuse, toldVerdict, toldSlot}
+use Rattle.standard.specs.Refusals.{refuse, toldVerdict, SlotTold, toldSlot}
+use Rattle.standard.specs.RefusalsLaws.{one-verdict, one-slot, one-list}
 use Rattle.standard.specs.Bits.{bits}
 use Rattle.standard.specs.BitsLaws.{bits-append}
 use Rattle.standard.specs.CopyLaws.{take-drop}
-use Rattle.standard.specs.Codes.{wordOf}
 use Rattle.standard.specs.Header.{isHeader, granules, channelCount}
+use Rattle.standard.specs.HaltLaws.{allowed, slot-allowed, isOther, not-missing}
 use Rattle.standard.specs.SideInfo.{isSide}
-use Rattle.standard.specs.Record.{isShort}
-use Rattle.standard.specs.Factors.{Source, planOf, planBits, factorsFrom}
-use Rattle.standard.specs.Numbers.{Reader, numberIn, twoLast, twoFirst, twoOf, pairAfter, pairWord, pairOf, quadLast, quadFirst, quadWord, quadOf, Numbers, halted, got, prepend, thenPairs, pairs, thenQuads, quads, thenRest, numbersBy, regionsOf, tableAt, numbersOf, quadTable, padded}
-use Rattle.standard.specs.Slots.{Outcome, stopped, holds, isStopped, longOf, anyOf, withFactors, slotBy, slotOf, settingOf, mateOf, slotIn, thenSlots, slotsFrom, slotsOf, slotsTold, numbersAfter, numbersFrom, readSlots, SlotsRead}
-use Rattle.standard.specs.declared.SampleRate.{SampleRate}
+use Rattle.standard.specs.Numbers.{padded}
+use Rattle.standard.specs.Slots.{Outcome, stopped, holds, slotOf, slotIn, thenSlots, slotsFrom, slotsOf, slotTold, lackingSlot, slotsTold, numbersAfter, numbersFrom, readSlots, SlotsRead}
 use Rattle.standard.specs.declared.Setting.{Setting}
 use Rattle.standard.specs.declared.FrameHeader.{FrameHeader}
 use Rattle.standard.specs.declared.SlotRecord.{SlotRecord}
 use Rattle.standard.specs.declared.SideInfo.{SideInfo}
 use Rattle.standard.specs.declared.SlotsAnswer.{SlotsAnswer}
+use Rattle.standard.specs.declared.SlotAnswer.{SlotAnswer}
+use Rattle.standard.specs.declared.SlotOutcome.the-variants.{Lacking}
 use Rattle.standard.specs.declared.Verdict.the-variants.{Accepted, Refused}
 use Rattle.standard.specs.declared.Refusal.{Refusal}
-use Rattle.standard.specs.declared.Refusal.the-variants.{UnfitMemory, MadeUpRecord, MissingBits, FactorOverrun, LostShare, RegionOverrun, PairOverrun, NoCodeword}
-use Rattle.standard.specs.declared.Codeword.{Codeword}
-use Rattle.standard.specs.declared.Codeword.the-variants.{Coded, Cut, Alien}
-use Rattle.standard.specs.declared.Regions.{Regions}
-use Rattle.standard.specs.declared.Regions.the-variants.{Split, NoRegions}
-use Rattle.standard.specs.declared.Number.{Number}
-use Rattle.standard.specs.declared.Number.the-variants.{Whole, Broken}
-use Rattle.standard.specs.declared.Pair.{Pair}
-use Rattle.standard.specs.declared.Pair.the-variants.{Two, NoPair}
-use Rattle.standard.specs.declared.Quad.{Quad}
-use Rattle.standard.specs.declared.Quad.the-variants.{Four, Dropped, NoQuad}
+use Rattle.standard.specs.declared.Refusal.the-variants.{UnfitMemory, MadeUpRecord, MissingBits}
 
 -- ---- what a slot's own bits come to is never "missing"
-isMissing : Refusal → Bool
-isMissing r = eqb (numberOf r) 20
-
--- a reading that does not say so
-there-pair : Pair → Bool
-there-pair (Two x y u) = true
-there-pair (NoPair r) = not (isMissing r)
-
-there : Numbers → Bool
-there (halted r) = not (isMissing r)
-there (got vs b) = true
-
-last-there : (x : ℤ) (n : ℕ) (y : Number) → there-pair (twoLast x n y) ≡ true
-unfolding twoLast there-pair isMissing
-last-there x n Broken = refl
-last-there x n (Whole y k) = refl
-
-first-there : (w y : ℕ) (b : List Bool) (x : Number) → there-pair (twoFirst w y b x) ≡ true
-unfolding twoFirst there-pair isMissing
-first-there w y b Broken = refl
-first-there w y b (Whole x k) = last-there x k (numberIn w y (drop k b))
-
-after-there : (n : ℕ) (p : Pair) → there-pair p ≡ true → there-pair (pairAfter n p) ≡ true
-unfolding pairAfter there-pair
-after-there n (NoPair r) e = e
-after-there n (Two x y k) e = refl
-
-word-there : (w : ℕ) (b : List Bool) (c : Codeword) → there-pair (pairWord w b c) ≡ true
-unfolding pairWord twoOf there-pair isMissing
-word-there w b Cut = refl
-word-there w b Alien = refl
-word-there w b (Coded v n) = after-there n _ (first-there w _ (drop n b) _)
-
-prepend-there : (vs : List ℤ) (q : Numbers) → there q ≡ true → there (prepend vs q) ≡ true
-unfolding prepend there
-prepend-there vs (halted r) e = e
-prepend-there vs (got ws b) e = refl
-
-then-there : (p : Pair) (rest : ℕ → Numbers) → there-pair p ≡ true → ((u : ℕ) → there (rest u) ≡ true) → there (thenPairs p rest) ≡ true
-unfolding thenPairs there there-pair
-then-there (NoPair r) rest e f = e
-then-there (Two x y u) rest e f = prepend-there (x ∷ y ∷ []) (rest u) (f u)
-
-module _ (word : Reader) where
-  pairs-there : (table : ℕ → ℕ) (k n : ℕ) (b : List Bool) → there (pairs word table k n b) ≡ true
-  unfolding pairs pairOf there
-  pairs-there table k zero b = refl
-  pairs-there table k (suc n) b =
-      then-there (pairOf word (table (2 * k)) b) _ (word-there _ b (word (table (2 * k)) b)) (λ u. pairs-there table (suc k) n (drop u b))
-
-  quad-there : (q : Quad) (rest : ℕ → Numbers) → ((u : ℕ) → there (rest u) ≡ true) → there (thenQuads q rest) ≡ true
-  unfolding thenQuads there isMissing
-  quad-there NoQuad rest f = refl
-  quad-there Dropped rest f = refl
-  quad-there (Four v w x y u) rest f = prepend-there (v ∷ w ∷ x ∷ y ∷ []) (rest u) (f u)
-
-  quads-there : (t n : ℕ) (b : List Bool) → there (quads word t n b) ≡ true
-  unfolding quads there
-  quads-there t zero b = refl
-  quads-there t (suc n) b = quad-there (quadOf word t b) _ (λ u. quads-there t n (drop u b))
-
-  rest-there : (t n : ℕ) (q : Numbers) → there q ≡ true → there (thenRest word t n q) ≡ true
-  unfolding thenRest there
-  rest-there t n (halted r) e = e
-  rest-there t n (got vs b) e = prepend-there vs _ (quads-there t _ b)
-
-  by-there : (r : SlotRecord) (g : Regions) (b : List Bool) → there (numbersBy word r g b) ≡ true
-  unfolding numbersBy there isMissing
-  by-there r NoRegions b = refl
-  by-there r (Split first second) b = rest-there _ (r .pairs) _ (pairs-there _ 0 (r .pairs) b)
-
-  numbers-there : (rate : SampleRate) (r : SlotRecord) (b : List Bool) → there (numbersOf word rate r b) ≡ true
-  unfolding numbersOf there
-  numbers-there rate r [] = refl
-  numbers-there rate r (a ∷ b) = by-there r (regionsOf rate r) (a ∷ b)
-
--- an outcome that is not "missing"
-unfoldable pub present : Outcome → Bool
-unfolding isMissing
-present (stopped r) = not (isMissing r)
-present (holds long short vs) = true
-
-factors-present : (short : Bool) (fs : List ℕ) (q : Numbers) → there q ≡ true → present (withFactors short fs q) ≡ true
-unfolding withFactors present there
-factors-present short fs (halted r) e = e
-factors-present short fs (got vs b) e = refl
-
-pick-present : (t : Bool) (o q : Outcome) → present o ≡ true → present q ≡ true → present (pick t o q) ≡ true
-unfolding pick
-pick-present true o q e f = e
-pick-present false o q e f = f
-
-pub slot-present : (g : Setting) (r : SlotRecord) (lost : Bool) (old : List ℕ) (b : List Bool) → present (slotOf g r lost old b) ≡ true
-unfolding slotOf slotBy present isMissing
-slot-present g r lost old b =
-    pick-present (ltb (r .length) (planBits (planOf (g .mpeg1) (g .intensity) (g .shares) r))) _ _ refl
-    (pick-present (anyOf (g .shares) && lost) _ _ refl (factors-present (isShort (r .block)) _ _ (numbers-there wordOf (g .rate) r _)))
+pub slot-present : (g : Setting) (r : SlotRecord) (lost : Bool) (old : List ℕ) (b : List Bool) → allowed (isOther 20) (slotOf g r lost old b) ≡ true
+slot-present = slot-allowed (isOther 20) not-missing
 
 -- ---- one slot at its place
 pub slotIn-missing : (s : List ℕ) (at : ℕ) (g : Setting) (r : SlotRecord) (lost : Bool) (old : List ℕ) → 8 * length s < at + r .length
@@ -172,10 +66,10 @@ module _ (h : FrameHeader) (i : SideInfo) where
   missing-from s (r ∷ rs) (suc n) at done k = missing-from s rs n (at + r .length) _ (omega arith)
 
   present-from : (s : List ℕ) (rs : List SlotRecord) (n at : ℕ) (done : List Outcome) → n < length rs → at + startOf (suc n) rs ≤ 8 * length s
-      → present (getD (slotsFrom h i s at done rs) n (stopped MissingBits)) ≡ true
+      → allowed (isOther 20) (getD (slotsFrom h i s at done rs) n (stopped MissingBits)) ≡ true
   unfolding slotsFrom startOf thenSlots
   present-from s [] n at done l k = absurd (omega arith)
-  present-from s (r ∷ rs) zero at done l k = ap present (slotIn-read s at _ r _ _ (omega arith)) ∙ slot-present _ r _ _ _
+  present-from s (r ∷ rs) zero at done l k = ap (allowed (isOther 20)) (slotIn-read s at _ r _ _ (omega arith)) ∙ slot-present _ r _ _ _
   present-from s (r ∷ rs) (suc n) at done l k = present-from s rs n (at + r .length) _ (omega arith) (omega arith)
 
   -- ---- bytes after
@@ -201,7 +95,7 @@ module _ (h : FrameHeader) (i : SideInfo) where
   length-from s (r ∷ rs) at done = ap suc (length-from s rs (at + r .length) _)
 
   -- the records of the frame's slots
-  abbrev records : List SlotRecord
+  abbrev pub records : List SlotRecord
   records = take (granules h * channelCount h) (i .slots)
 
   pub length-slots : (s : List ℕ) → length (slotsOf h i s) ≡ length records
@@ -215,12 +109,12 @@ module _ (h : FrameHeader) (i : SideInfo) where
   -- 20 exactly when the lengths up to and including the slot's exceed the bits there are
   pub exactly-missing : (s : List ℕ) (n : ℕ) → n < length records
       → (outcomeOf s n ≡ stopped MissingBits) ↔ (8 * length s < startOf (suc n) records)
-  unfolding outcomeOf slotsOf present isMissing
+  unfolding outcomeOf slotsOf allowed isOther
   exactly-missing s n l = (go, back)
     where
       go : getD (slotsFrom h i s 0 [] records) n (stopped MissingBits) ≡ stopped MissingBits → 8 * length s < startOf (suc n) records
       go e =
-          elim (decLe (startOf (suc n) records) (8 * length s)) [ yes k ↦ never (sym (ap present e) ∙ present-from s records n 0 [] l (omega arith)) | no k ↦ omega arith ]
+          elim (decLe (startOf (suc n) records) (8 * length s)) [ yes k ↦ never (sym (ap (allowed (isOther 20)) e) ∙ present-from s records n 0 [] l (omega arith)) | no k ↦ omega arith ]
 
       back : 8 * length s < startOf (suc n) records → getD (slotsFrom h i s 0 [] records) n (stopped MissingBits) ≡ stopped MissingBits
       back k = missing-from s records n 0 [] (omega arith)
@@ -321,6 +215,24 @@ own-numbers os n d k h =
     let e : 0 + 576 * n ≡ 576 * n = omega arith in
     rw e at (part-from os n 0 d (stopped MissingBits) k (omega arith))
 
+-- what lies past the last slot's numbers stays
+beyond-from : (os : List Outcome) (at : ℕ) (d : List ℤ) → at + 576 * length os ≤ length d
+    → drop (at + 576 * length os) (numbersFrom at os d) ≡ drop (at + 576 * length os) d
+unfolding numbersFrom
+beyond-from [] at d h = refl
+beyond-from (o ∷ os) at d h =
+    let g : at + 576 ≤ length d = omega arith in
+    let l : length (numbersAfter o at d) ≡ length d = length-after o at d g in
+    let e : at + 576 * suc (length os) ≡ at + 576 + 576 * length os = omega arith in
+    rw e
+    (beyond-from os (at + 576) (numbersAfter o at d) (omega arith)
+    ∙ sym (drop-drop (576 * length os) (at + 576) (numbersAfter o at d))
+    ∙ ap (drop (576 * length os)) (beyond-after o at d g)
+    ∙ drop-drop (576 * length os) (at + 576) d)
+
+pub past-slots : (os : List Outcome) (d : List ℤ) → 576 * length os ≤ length d → drop (576 * length os) (numbersFrom 0 os d) ≡ drop (576 * length os) d
+past-slots os d h = let e : 0 + 576 * length os ≡ 576 * length os = omega arith in rw e at (beyond-from os 0 d (omega arith))
+
 -- a slot that is not missing leaves the same 576 numbers from the same bytes with any others after them
 pub same-numbers : (h : FrameHeader) (i : SideInfo) (xs ys : List ℕ) (n : ℕ) (d : List ℤ) → n < length (slotsOf h i xs) → 2304 ≤ length d
     → length (slotsOf h i xs) ≤ 4 → (outcomeOf h i xs n ≡ stopped MissingBits → ⊥)
@@ -370,3 +282,40 @@ slots-told {d = d} e v a = record {
   slots = a .0 ∙ sym (ap (λ (x : Told (List Outcome)). slotsTold (toldOr [] x)) e);
   numbers = a .1 ∙ sym (ap (λ (x : Told (List Outcome)). numbersFrom 0 (toldOr [] x) d) e);
 }
+
+-- ---- one answer and one state
+pub one-slots : {d left gone : List ℤ} {t : Told (List Outcome)} {r q : SlotsAnswer} → SlotsRead d t r left → SlotsRead d t q gone → (r ≡ q) × (left ≡ gone)
+one-slots {r = r} {q = q} a b =
+    let v = one-verdict (r .verdict) (q .verdict) (a .verdict ∙ sym (b .verdict)) in
+    let s = one-list toldSlot one-slot (r .slots) (q .slots) (a .slots ∙ sym (b .slots)) in
+    (λ j. record { verdict = v j; slots = s j }, a .numbers ∙ sym (b .numbers))
+
+-- ---- what is answered of the n-th slot
+told-from : (os : List Outcome) (l : List SlotTold) (n : ℕ) (o : Outcome) (z : SlotTold) → n < length os → getD (map slotTold os ++ l) n z ≡ slotTold (getD os n o)
+told-from [] l n o z h = absurd (omega arith)
+told-from (x ∷ os) l zero o z h = refl
+told-from (x ∷ os) l (suc n) o z h = told-from os l n o z (omega arith)
+
+lacking-from : (os : List Outcome) (k n : ℕ) → length os ≤ n → getD (map slotTold os ++ replicate k lackingSlot) n lackingSlot ≡ lackingSlot
+lacking-from [] zero n h = refl
+lacking-from [] (suc k) zero h = refl
+lacking-from [] (suc k) (suc n) h = lacking-from [] k n (omega arith)
+lacking-from (x ∷ os) k zero h = absurd (omega arith)
+lacking-from (x ∷ os) k (suc n) h = lacking-from os k n (omega arith)
+
+-- an answer that says that the frame lacks the slot
+abbrev pub lackingAnswer : SlotAnswer
+lackingAnswer = record { outcome = Lacking; long = replicate 22 0; short = replicate 39 0 }
+
+module _ (l : List SlotAnswer) (os : List Outcome) (e : map toldSlot l ≡ slotsTold os) (n : ℕ) where
+  at-slot : toldSlot (getD l n lackingAnswer) ≡ getD (slotsTold os) n lackingSlot
+  unfolding lackingSlot
+  at-slot = sym (List·getD-map toldSlot l n lackingAnswer) ∙ ap (λ (m : List SlotTold). getD m n (toldSlot lackingAnswer)) e
+
+  pub told-at : n < length os → toldSlot (getD l n lackingAnswer) ≡ slotTold (getD os n (stopped MissingBits))
+  unfolding slotsTold
+  told-at h = at-slot ∙ told-from os (replicate (4 - length os) lackingSlot) n (stopped MissingBits) lackingSlot h
+
+  pub lacking-at : length os ≤ n → toldSlot (getD l n lackingAnswer) ≡ lackingSlot
+  unfolding slotsTold
+  lacking-at h = at-slot ∙ lacking-from os (4 - length os) n h
