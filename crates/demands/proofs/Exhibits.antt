@@ -1,0 +1,291 @@
+-- No theorem of the demands has a premise that cannot be met: for each, calls that meet it. They are frame F of document 01 and its neighbours, with
+-- 4,096 bytes and 2,304 numbers lent, and calls that are lent nothing. (Where a theorem says that something cannot be, as answer 25, its premise is
+-- that very thing.)
+use mathlib.Core.Path.{_≡_, refl, sym, ap, _∙_}
+use mathlib.Core.Bool.{Bool, true, false}
+use mathlib.Core.List.{List, [], _∷_, _++_}
+use Prim.Native.Nat.{ℕ, _≤_, _<_}
+use native.Mathlib.Omega.{arith}
+use borrow.Author.Tests.{ltb-true}
+use lib.Dec.{ltb}
+use lib.IntN.{ℤ, pos}
+use lib.ListN.{length, getD, take, replicate, set, length-replicate}
+use Rattle.standard.specs.Told.{pick, Told, refused, told, toldOr, verdictOf}
+use Rattle.standard.specs.Refusals.{toldVerdict, lacking, refusedBy, counted, SlotTold}
+use Rattle.standard.specs.RefusalsLaws.{answers-told}
+use Rattle.standard.specs.RowsLaws.{every, every-at}
+use Rattle.standard.specs.Written.{Bytes}
+use Rattle.standard.specs.Codes.{entry, starts, published, codes, table1, pair, lowBits}
+use Rattle.standard.specs.CodesLaws.{In, here}
+use Rattle.standard.specs.Bits.{window}
+use Rattle.standard.specs.Header.{headerOf, isMpeg1, isHeader, mainSize, noHeader}
+use Rattle.standard.specs.HeaderBytes.{header-known}
+use Rattle.standard.specs.Record.{isShort, absent, recordOf, isRecord}
+use Rattle.standard.specs.RecordBits.{record-known}
+use Rattle.standard.specs.SideInfo.{isSide}
+use Rattle.standard.specs.SideLaws.{slot-record}
+use Rattle.standard.specs.Slots.{Outcome, slotsOf, readSlots}
+use Rattle.standard.specs.SlotsLaws.{read-call, records}
+use Rattle.standard.specs.SlotsLaws as slots-laws
+use Rattle.standard.specs.ReservoirLaws.{few-lent}
+use Rattle.standard.specs.ReorderLaws as reorder-laws
+use Rattle.standard.specs.Reservoir.{turnVerdict, emptied as nothing}
+use Rattle.standard.specs.Frame.{Step, frameCall, frameOf}
+use Rattle.standard.specs.FrameLaws.{call-fits}
+use Rattle.standard.specs.StepLaws.{way}
+use Rattle.standard.specs.Worked.{frameF, long, reachingBack, step, slotsBy}
+use Rattle.standard.specs.declared.FrameHeader.{FrameHeader}
+use Rattle.standard.specs.declared.SideInfo.{SideInfo}
+use Rattle.standard.specs.declared.SlotRecord.{SlotRecord}
+use Rattle.standard.specs.declared.SampleRate.the-variants.{Hz44100}
+use Rattle.standard.specs.declared.Reservoir.{Reservoir}
+use Rattle.standard.specs.declared.Verdict.{Verdict}
+use Rattle.standard.specs.declared.Verdict.the-variants.{Accepted, Refused}
+use Rattle.standard.specs.declared.Refusal.the-variants.{UnfitMemory, FreeBitrate, ShortReservoir}
+use Rattle.codes.specs.Walk.{lookedUp}
+use Rattle.huffman.specs.Slot.{slotNumbers, toldCount, countOf, numbersAfter}
+use Rattle.huffman.specs.declared.HuffmanAnswer.the-variants.{Uncounted}
+use Rattle.codes.specs.Flat.{trees}
+use Rattle.demands.proofs.Calls.{HuffmanCall, slotSaid, FrameStep, frame, bytes, reservoir, numbers, SlotsCall, slotsHeader, slotsInfo, mainData, slotsNumbers, TurnCall, ReorderCall, reorderHeader, reorderRecord, reorderNumbers, SideInfoCall, IsHeaderCall, IsSideInfoCall, IsRecordCall, MainSizeCall, EmptiedCall, TreesCall, LookupCall, lookupTrees, lookupTable, lookupBits}
+use Rattle.demands.proofs.Made.{lend, answerOf, answersOf, fourOf, frameStep, slotsCall, sideInfoCall, reorderCall, turnCall}
+use Rattle.demands.proofs.Bounds.{InTurn}
+use Rattle.demands.proofs.Worked.{Lent, way-known}
+
+-- ---- memory that is lent
+abbrev pub memory : ℕ → List ℕ
+memory x = replicate 4096 x
+
+abbrev pub zeros : List ℤ
+zeros = replicate 2304 (pos 0)
+
+abbrev pub none : Reservoir
+none = record { length = 0 }
+
+bytes-enough : (x : ℕ) → 4096 ≤ length (memory x)
+bytes-enough x = rw length-replicate (omega arith)
+
+numbers-enough : 2304 ≤ length zeros
+numbers-enough = rw length-replicate (omega arith)
+
+-- a frame's call from an empty reservoir comes to the frame's step
+pub comes-to : (s : List ℕ) (x : ℕ) → frameCall s (memory x) 0 (length zeros) ≡ frameOf s []
+comes-to s x = call-fits s (memory x) 0 (length zeros) (bytes-enough x) (omega arith) numbers-enough
+
+-- that call, with the verdict that is computed
+unfoldable pub a-frame : (s : List ℕ) (x : ℕ) (v : Verdict) → toldVerdict v ≡ frameOf s [] .verdict → FrameStep
+a-frame s x v e = frameStep s (memory x) none zeros v (e ∙ ap (λ (p : Step). p .verdict) (sym (comes-to s x)))
+
+-- F itself, with either filling of the memory past the reservoir's bytes
+unfoldable pub f : ℕ → FrameStep
+unfolding step
+f x = a-frame frameF x Accepted refl
+
+bytes-of : (s : List ℕ) → every (λ (x : ℕ). ltb x 256) s ≡ true → Bytes s
+bytes-of s e i = ltb-true _ _ (every-at (λ (x : ℕ). ltb x 256) 0 s refl e i)
+
+f-bytes : Bytes frameF
+unfolding every
+f-bytes = bytes-of frameF refl
+
+-- ---- Demand 1
+pub frame-refused : (c : FrameStep) × (toldVerdict (c .answer .verdict) ≡ refused 7)
+unfolding a-frame frameStep step
+frame-refused = (a-frame (set frameF 2 0x04) 0 (Refused FreeBitrate) refl, refl)
+
+pub frame-short : (c : FrameStep) × (toldVerdict (c .answer .verdict) ≡ refused 13)
+unfolding a-frame frameStep step
+frame-short = (a-frame (reachingBack 1) 0 (Refused ShortReservoir) refl, refl)
+
+-- a frame with a refused slot, which also lacks the slots of a second channel and granule
+pub slot-refused : (c : FrameStep) × (slotSaid (c .answer .slots) 0 .said ≡ refusedBy 24) × (slotSaid (c .answer .slots) 1 .said ≡ lacking)
+unfolding a-frame frameStep step answersOf answerOf
+slot-refused = (
+  a-frame (long 2) 0 Accepted refl,
+  ap (λ (p : Step). slotSaid (fourOf (p .slots)) 0 .said) (comes-to (long 2) 0),
+  ap (λ (p : Step). slotSaid (fourOf (p .slots)) 1 .said) (comes-to (long 2) 0),
+)
+
+-- ---- slots of F from given main data
+abbrev pub header : FrameHeader
+header = frameOf frameF [] .header
+
+abbrev pub info : SideInfo
+info = frameOf frameF [] .info
+
+known : (isHeader header ≡ true) × (isSide header info ≡ true)
+unfolding step
+known = way-known f-bytes (way frameF []) refl
+
+pub read-is : (main : List ℕ) → readSlots header info main (length zeros) ≡ told (slotsOf header info main)
+read-is main = read-call header info main (length zeros) numbers-enough (known .0) (known .1)
+
+unfoldable pub from-main : List ℕ → SlotsCall
+unfolding verdictOf
+from-main main = slotsCall header info main zeros Accepted (sym (ap verdictOf (read-is main)))
+
+from-said : (main : List ℕ) (n : ℕ) → slotSaid (from-main main .answer .slots) n ≡ slotSaid (fourOf (slotsOf header info main)) n
+unfolding from-main slotsCall toldOr
+from-said main n = ap (λ (t : Told (List Outcome)). slotSaid (fourOf (toldOr [] t)) n) (read-is main)
+
+-- with the premises of Demand 3 on header, side information and numbers: from nothing the slot is missing, from a byte it is not
+pub slot-missing : (c : SlotsCall) × (2304 ≤ length (slotsNumbers c)) × (isHeader (slotsHeader c) ≡ true) × (isSide (slotsHeader c) (slotsInfo c) ≡ true)
+    × (0 < length (records (slotsHeader c) (slotsInfo c))) × (slotSaid (c .answer .slots) 0 .said ≡ refusedBy 20) × (slotSaid (c .answer .slots) 1 .said ≡ lacking)
+unfolding from-main slotsCall step slotsBy answersOf answerOf
+slot-missing =
+    let one : length (records header info) ≡ 1 = refl in (
+      from-main [],
+      numbers-enough,
+      known .0,
+      known .1,
+      omega (arith, one),
+      ap (λ (t : SlotTold). t .said) (from-said [] 0),
+      ap (λ (t : SlotTold). t .said) (from-said [] 1),
+    )
+
+pub early-and-late : (early late : SlotsCall) × (slotsHeader late ≡ slotsHeader early) × (slotsInfo late ≡ slotsInfo early) × (mainData late ≡ mainData early ++ 0x00 ∷ [])
+    × (slotsNumbers late ≡ slotsNumbers early) × (2304 ≤ length (slotsNumbers early)) × (isHeader (slotsHeader early) ≡ true)
+    × (isSide (slotsHeader early) (slotsInfo early) ≡ true) × (slotSaid (early .answer .slots) 0 .said ≡ counted 6)
+unfolding from-main slotsCall step slotsBy answersOf answerOf
+early-and-late = (
+  from-main (0x7A ∷ []),
+  from-main (0x7A ∷ 0x00 ∷ []),
+  refl,
+  refl,
+  refl,
+  refl,
+  numbers-enough,
+  known .0,
+  known .1,
+  ap (λ (t : SlotTold). t .said) (from-said (0x7A ∷ []) 0),
+)
+
+-- ---- calls that are lent nothing
+pub slots-refused : (c : SlotsCall) × (toldVerdict (c .answer .verdict) ≡ refused 1)
+unfolding slotsCall verdictOf
+slots-refused = (slotsCall header info [] [] (Refused UnfitMemory) (sym (ap verdictOf (slots-laws.few-numbers header info [] 0 (omega arith)))), refl)
+
+pub reorder-refused : (c : ReorderCall) × (toldVerdict (c .answer) ≡ refused 1)
+unfolding reorderCall verdictOf
+reorder-refused = (reorderCall header absent [] (Refused UnfitMemory) (sym (ap verdictOf (reorder-laws.few-numbers header absent [] (omega arith)))), refl)
+
+pub huffman-refused : (c : HuffmanCall) × (toldCount (c .answer) ≡ refused 1)
+unfolding slotNumbers pick countOf numbersAfter
+huffman-refused = (
+  record {
+    lifetimes = ([], ([], ([], tt)));
+    args = (lend [], (header .rate, (absent, (lend [], (0, (0, (lend [], tt)))))));
+    answer = Uncounted UnfitMemory;
+    exit = (lend [], (header .rate, (absent, (lend [], (0, (0, (lend [], tt)))))));
+    promised = (refl, refl);
+  },
+  refl,
+)
+
+pub turn-refused : (c : TurnCall) × (toldVerdict (c .answer .verdict) ≡ refused 1)
+unfolding turnCall turnVerdict
+turn-refused = (turnCall [] none 0 [] (Refused UnfitMemory) (sym (ap turnVerdict (few-lent [] 0 0 [] (omega arith)))), refl)
+
+-- ---- OnlyValid: F's call twice, over memory that differs past the reservoir's bytes
+pub two-memories : (frame (f 1) ≡ frame (f 0)) × (reservoir (f 1) ≡ reservoir (f 0)) × (numbers (f 1) ≡ numbers (f 0))
+    × (take (reservoir (f 0) .length) (bytes (f 1)) ≡ take (reservoir (f 0) .length) (bytes (f 0))) × (ltb (length (bytes (f 1))) 4096 ≡ ltb (length (bytes (f 0))) 4096)
+unfolding f a-frame frameStep
+two-memories = (refl, refl, refl, refl, ap (λ (n : ℕ). ltb n 4096) (length-replicate {A = ℕ} 4096 1 ∙ sym (length-replicate {A = ℕ} 4096 0)))
+
+-- ---- Records: a header, side information and a record that the checks accept
+pub header-checked : (c : IsHeaderCall) × (c .answer ≡ true)
+header-checked = (record { lifetimes = tt; args = (header, tt); answer = true; exit = (header, tt); promised = sym (known .0) }, refl)
+
+pub side-checked : (c : IsSideInfoCall) × (isHeader (c .args .0) ≡ true) × (c .answer ≡ true)
+side-checked = (record { lifetimes = tt; args = (header, (info, tt)); answer = true; exit = (header, (info, tt)); promised = sym (known .1) }, known .0, refl)
+
+pub record-checked : (c : IsRecordCall) × (isHeader (c .args .0) ≡ true) × (c .answer ≡ true)
+unfolding step
+record-checked =
+    let r = getD (info .slots) 0 absent in (
+      record { lifetimes = tt; args = (header, (r, tt)); answer = true; exit = (header, (r, tt)); promised = sym (slot-record header info (known .1) 0 (omega arith)) },
+      known .0,
+      refl,
+    )
+
+-- ---- Worked and Bounds: memory is lent to any frame as the table asks; F's bytes are bytes, it is accepted, its header and side information are
+-- handed on, and its slot is counted
+pub lent : (s : List ℕ) (x : ℕ) (v : Verdict) (e : toldVerdict v ≡ frameOf s [] .verdict) → Lent (a-frame s x v e) s []
+unfolding a-frame frameStep
+lent s x v e = record { frame-is = refl; old-is = refl; bytes-enough = bytes-enough x; stated-fits = omega arith; numbers-enough = numbers-enough }
+
+pub handed-on : (main : List ℕ) → (slotsHeader (from-main main) ≡ f 0 .answer .header) × (slotsInfo (from-main main) ≡ f 0 .answer .info) × (mainData (from-main main) ≡ main)
+unfolding from-main slotsCall f a-frame frameStep
+handed-on main = (ap (λ (p : Step). p .header) (sym (comes-to frameF 0)), ap (λ (p : Step). p .info) (sym (comes-to frameF 0)), refl)
+
+-- a header at 44.1 kHz, a short block's record under it, and numbers that begin with 1 to 12
+abbrev bytes44 : List ℕ
+bytes44 = 0xFF ∷ 0xFB ∷ 0x90 ∷ 0x00 ∷ []
+
+unfoldable header44 : FrameHeader
+unfolding step toldOr
+header44 = toldOr noHeader (headerOf bytes44)
+
+abbrev bitsShort : List Bool
+bitsShort = replicate 33 false ++ true ∷ true ∷ replicate 24 false
+
+unfoldable shortRecord : SlotRecord
+unfolding step toldOr
+shortRecord = toldOr absent (recordOf true bitsShort)
+
+header44-known : isHeader header44 ≡ true
+unfolding header44 every
+header44-known = header-known bytes44 header44 (bytes-of bytes44 refl) refl
+
+short-known : isRecord true shortRecord ≡ true
+unfolding shortRecord
+short-known = record-known true bitsShort shortRecord refl
+
+abbrev firstTwelve : List ℤ
+firstTwelve = pos 1 ∷ pos 2 ∷ pos 3 ∷ pos 4 ∷ pos 5 ∷ pos 6 ∷ pos 7 ∷ pos 8 ∷ pos 9 ∷ pos 10 ∷ pos 11 ∷ pos 12 ∷ []
+
+abbrev before : List ℤ
+before = firstTwelve ++ replicate 564 (pos 0)
+
+pub short-reordered : (c : ReorderCall) × (isHeader (reorderHeader c) ≡ true) × (reorderHeader c .rate ≡ Hz44100)
+    × (isRecord (isMpeg1 (reorderHeader c .version)) (reorderRecord c) ≡ true) × (isShort (reorderRecord c .block) ≡ true) × (576 ≤ length (reorderNumbers c))
+    × (take 576 (reorderNumbers c) ≡ firstTwelve ++ replicate 564 (pos 0))
+unfolding reorderCall header44 shortRecord verdictOf
+short-reordered = (
+  reorderCall header44 shortRecord before Accepted (sym (ap verdictOf (reorder-laws.short-in-order header44 shortRecord before (omega arith) header44-known short-known refl))),
+  header44-known,
+  refl,
+  short-known,
+  refl,
+  omega arith,
+  refl,
+)
+
+pub f-counted : Bytes (frame (f 0)) × (f 0 .answer .verdict ≡ Accepted) × (slotSaid (f 0 .answer .slots) 0 .said ≡ counted 6)
+unfolding f a-frame frameStep step answersOf answerOf
+f-counted = (f-bytes, refl, ap (λ (p : Step). slotSaid (fourOf (p .slots)) 0 .said) (comes-to frameF 0))
+
+pub side-accepted : (c : SideInfoCall) × (c .answer .verdict ≡ Accepted)
+unfolding step
+side-accepted = (sideInfoCall header frameF (record { verdict = Accepted; info = info }) (answers-told refl), refl)
+
+pub main-sized : (c : MainSizeCall) × (isHeader (c .args .0) ≡ true)
+main-sized = (record { lifetimes = tt; args = (header, tt); answer = mainSize header; exit = (header, tt); promised = refl }, known .0)
+
+pub in-turn : (start : EmptiedCall) × InTurn (start .answer) (f 0 ∷ [])
+unfolding f a-frame frameStep nothing
+in-turn = (record { lifetimes = tt; args = tt; answer = nothing; exit = tt; promised = refl }, (refl, f-bytes, tt))
+
+-- ---- Codes: a lookup in table 1 over the trees, where the bits are the codeword 1 of the pair 0, 0
+abbrev looking : LookupCall
+looking =
+    record {
+      lifetimes = ([], ([], tt));
+      args = (lend trees, (1, (lend (0x80 ∷ []), (0, (1, tt)))));
+      answer = lookedUp trees 1 (window (0x80 ∷ []) 0 1);
+      exit = (lend trees, (1, (lend (0x80 ∷ []), (0, (1, tt)))));
+      promised = refl;
+    }
+
+pub looked : (t : TreesCall) × (lookupTrees looking ≡ t .answer) × In (entry 0 (true ∷ [])) (published (lookupTable looking)) × (starts (true ∷ []) (lookupBits looking) ≡ true)
+unfolding published codes table1 pair lowBits starts step
+looked = (record { lifetimes = tt; args = tt; answer = trees; exit = tt; promised = refl }, refl, here, refl)

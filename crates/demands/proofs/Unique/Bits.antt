@@ -1,0 +1,12 @@
+-- What no two readers may disagree on, for every public function of `bits`: one answer for the same arguments.
+use Rattle.demands.proofs.Call.{alike, OneAnswer}
+use Rattle.bits.proofs.bit.Reads as bit
+use Rattle.bits.proofs.bit.Kinds as bit-kinds
+use Rattle.bits.proofs.field.Reads as field
+use Rattle.bits.proofs.field.Kinds as field-kinds
+
+pub bit-unique : OneAnswer bit-kinds.ps bit-kinds.r bit.Post
+bit-unique κs a x y s t p q = alike p q
+
+pub field-unique : OneAnswer field-kinds.ps field-kinds.r field.Post
+field-unique κs a x y s t p q = alike p q

@@ -1,0 +1,16 @@
+-- What no two readers may disagree on, for every public function of `main_data`: one answer and one state of the lent numbers.
+use denote.Ref.{now}
+use Rattle.standard.specs.SlotsLaws.{one-slots}
+use Rattle.standard.specs.RefusalsLaws.{one-list, one-slot}
+use Rattle.standard.specs.Refusals.{toldSlot}
+use Rattle.demands.proofs.Call.{OneState, alike, OneAnswer}
+use Rattle.main_data.proofs.read_slots.Reads as read-slots
+use Rattle.main_data.proofs.read_slots.Kinds as read-slots-kinds
+use Rattle.main_data.proofs.answers.lacking_slots.Reads as lacking-slots
+use Rattle.main_data.proofs.answers.lacking_slots.Kinds as lacking-slots-kinds
+
+pub read-slots-unique : OneState read-slots-kinds.ps read-slots-kinds.r read-slots.Post (λ κs s. now (s .1 .1 .1 .0))
+read-slots-unique κs a x y s t p q = one-slots p q
+
+pub lacking-slots-unique : OneAnswer lacking-slots-kinds.ps lacking-slots-kinds.r lacking-slots.Post
+lacking-slots-unique κs a x y s t p q = one-list toldSlot one-slot x y (alike p q)

@@ -1,0 +1,13 @@
+-- What no two readers may disagree on, for every public function of `window`: what is answered, and one state of the lent bytes.
+use denote.Ref.{now}
+use Rattle.demands.proofs.Call.{alike, OneState, OneShown}
+use Rattle.window.proofs.put.Reads as put
+use Rattle.window.proofs.put.Kinds as put-kinds
+use Rattle.window.proofs.slide.Reads as slide
+use Rattle.window.proofs.slide.Kinds as slide-kinds
+
+pub put-unique : OneState put-kinds.ps put-kinds.r put.Post (λ κs s. now (s .0))
+put-unique κs a x y s t p q = (alike (p .next) (q .next), alike (p .bytes) (q .bytes))
+
+pub slide-unique : OneShown slide-kinds.ps slide-kinds.r slide.Post (λ κs x s. now (s .0))
+slide-unique κs a x y s t p q = alike p q
