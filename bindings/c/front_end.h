@@ -1,0 +1,126 @@
+/* The front end of an MP3 Layer III reader, from the bytes on a card to the whole numbers of each slot, for C and C++.
+
+   Link with libfront_end.a, which `rt staticlib front_end` makes (x86-64). It needs no other library, allocates nothing, keeps nothing
+   between calls, and every call returns for every input.
+
+   A slot is one granule of one channel. The slots of a frame go granule by granule, channel by channel: MPEG-1 has 4 (mono 2), MPEG-2
+   and MPEG-2.5 have 2 (mono 1).
+
+   Every call that takes a frame takes it from the first byte of its header on; bytes beyond the frame are ignored.
+   Pointers must be valid for the length beside them, not null (where a length is 0, any address will do), and the memory that is lent
+   to be written must not overlap any other. That, and only that, is the caller's to see to. */
+#ifndef FRONT_END_H
+#define FRONT_END_H
+
+#include <stddef.h>
+#include <stdint.h>
+
+#ifdef __cplusplus
+extern "C" {
+#endif
+
+/* ---- what a caller lends, at least */
+#define FRONT_END_RESERVOIR 4096 /* bytes for the bit reservoir */
+#define FRONT_END_SLOTS 4        /* slots of a frame, at most */
+#define FRONT_END_SLOT 576       /* numbers of a slot */
+#define FRONT_END_NUMBERS 2304   /* numbers of a frame's slots: FRONT_END_SLOTS x FRONT_END_SLOT */
+#define FRONT_END_ROW 63         /* numbers in a slot's row (front_end_slot) */
+#define FRONT_END_ROWS 252       /* numbers in the rows of a frame: FRONT_END_SLOTS x FRONT_END_ROW */
+#define FRONT_END_FRAME 1441     /* bytes of the longest frame: so many, if the card has them, are always enough */
+
+/* ---- answers: 0 where a call is accepted, else one of these */
+enum {
+    FRONT_END_ACCEPTED = 0,
+
+    /* the call is refused; nothing that was lent has changed */
+    FRONT_END_UNFIT_MEMORY = 1,    /* less memory lent than said above, or a reservoir's length above FRONT_END_RESERVOIR */
+    FRONT_END_MADE_UP_RECORD = 14, /* reorder: the frame has no slot of that number */
+
+    /* the frame is refused; nothing that was lent has changed, save by 13 */
+    FRONT_END_ABSENT_BYTES = 2,       /* the bytes end within the frame */
+    FRONT_END_NO_SYNC = 3,            /* the first byte is not FF, or the top three bits of the second are not all set */
+    FRONT_END_RESERVED_VERSION = 4,   /* version bits 01 */
+    FRONT_END_RESERVED_LAYER = 5,     /* layer bits 00 */
+    FRONT_END_OTHER_LAYER = 6,        /* Layer I or II */
+    FRONT_END_FREE_BITRATE = 7,       /* bitrate field 0 */
+    FRONT_END_FORBIDDEN_RATE = 8,     /* bitrate field 15, or sampling field 3 */
+    FRONT_END_RESERVED_EMPHASIS = 9,  /* emphasis 2 */
+    FRONT_END_TOO_MANY_PAIRS = 10,    /* big_values above 288 */
+    FRONT_END_FORBIDDEN_BLOCK = 11,   /* window switching with block type 0 */
+    FRONT_END_MIXED_BLOCK = 12,       /* window switching with the mixed flag */
+    FRONT_END_SHORT_RESERVOIR = 13,   /* main_data_begin reaches further back than the reservoir. The frame's main data was added to
+                                         the reservoir for the frames after it, and the frame's length is told */
+
+    /* a slot is refused (in its row): its 576 numbers have not changed */
+    FRONT_END_MISSING_BITS = 20,   /* its bits end beyond the main data */
+    FRONT_END_FACTOR_OVERRUN = 21, /* its scale factors are longer than it */
+    FRONT_END_LOST_SHARE = 22,     /* it shares scale factors with a slot that was refused */
+    FRONT_END_REGION_OVERRUN = 23, /* region0_count + region1_count above 20 */
+    FRONT_END_PAIR_OVERRUN = 24,   /* a pair does not end within it */
+    FRONT_END_NO_CODEWORD = 25,    /* the next bits start no codeword; this cannot occur, since every code is complete */
+
+    /* in a row: the frame has no such slot (mono, MPEG-2 or MPEG-2.5) */
+    FRONT_END_LACKING = 255
+};
+
+/* What is told of a slot, its row: FRONT_END_ROW numbers of 16 bits. Of a slot that was refused or that the frame lacks, all but
+   `refusal` is 0. */
+typedef struct {
+    uint16_t refusal;          /* 0, or 20 to 25, or FRONT_END_LACKING */
+    uint16_t count;            /* numbers up to the last that was coded, 0 to 576; those after it are 0 */
+    uint16_t long_factors[22]; /* scale factors of a long block */
+    uint16_t short_factors[13][3]; /* of a short block: for each band, three windows */
+} front_end_slot;
+
+/* What a frame answers. */
+typedef struct {
+    uint8_t refusal;  /* 0, 1, or 2 to 13 */
+    size_t length;    /* bytes of the frame, after 0 and 13; else 0 */
+    size_t reservoir; /* the reservoir's length now: hand it in with the next frame */
+} front_end_frame_told;
+
+/* What a header says of its frame. Of a refused one, all but `refusal` is 0. */
+typedef struct {
+    uint8_t refusal;  /* 0, or 2 to 9 */
+    size_t length;    /* bytes of the frame: header, side information and main data together */
+    size_t header;    /* bytes of the header with the CRC, 4 or 6 */
+    size_t side;      /* bytes of the side information, 9, 17 or 32 */
+    size_t main;      /* bytes of the main data, 1 to 1,428 */
+    size_t granules;  /* 1 or 2 */
+    size_t channels;  /* 1 or 2 */
+    uint32_t rate;    /* samples a second */
+    uint32_t bitrate; /* bits a second */
+} front_end_frame_sizes;
+
+/* ---- the calls */
+
+/* One frame. Lent are FRONT_END_RESERVOIR bytes of reservoir, kept from frame to frame, with the length that the last frame answered
+   (front_end_emptied() before the first); FRONT_END_NUMBERS numbers; and FRONT_END_SLOTS slots, of which rows_length is the count
+   of their 16-bit numbers, FRONT_END_ROWS.
+   Accepted: slots[n] is told, and the n-th slot's numbers are the 576 from 576 n on, save those of a slot that was refused, which
+   stay, as do those past the frame's last slot. Numbers are those before the reorder. */
+front_end_frame_told front_end_frame(const uint8_t *frame, size_t frame_length, uint8_t *reservoir, size_t reservoir_size,
+                                     size_t reservoir_length, int32_t *numbers, size_t numbers_length, front_end_slot *slots,
+                                     size_t rows_length);
+
+/* The slots of a frame from given main data of any length: what can still be read where the card has lost some. Of the frame only the
+   header and the side information are read. Answers 0, 1, or 2 to 12; numbers and slots as with front_end_frame. */
+uint8_t front_end_slots(const uint8_t *frame, size_t frame_length, const uint8_t *main_data, size_t main_data_length, int32_t *numbers,
+                        size_t numbers_length, front_end_slot *slots, size_t rows_length);
+
+/* For a gap on the card: the length of a reservoir of which no byte is meant any more, which is 0. */
+size_t front_end_emptied(void);
+
+/* The reorder of one slot's FRONT_END_SLOT numbers by the frame's own record of the slot: those of a short block, window by window
+   before it, stand frequency by frequency after it; any other slot's stay. Numbers past the 576 stay. Answers 0, 1, 14, or 2 to 12.
+   Not for a slot that was refused: its numbers are not of this frame. */
+uint8_t front_end_reorder(const uint8_t *frame, size_t frame_length, size_t slot, int32_t *numbers, size_t numbers_length);
+
+/* What follows from a frame's header: 4 bytes are enough, 6 where it has a CRC. */
+front_end_frame_sizes front_end_sizes(const uint8_t *frame, size_t frame_length);
+
+#ifdef __cplusplus
+}
+#endif
+
+#endif

@@ -1,0 +1,56 @@
+-- `front_end_sizes` meets its contract: the header is the definition's, and so is what follows from it. Assumes nothing.
+use mathlib.Core.Path.{_≡_, sym, ap, _∙_}
+use Rattle.standard.specs.Refusals.{toldHeader}
+use Rattle.front_end.specs.Calls.{sizesTold}
+use borrow.Author.Needs.{needs}
+use Rattle.front_end.proofs.front_end_sizes.Statement.{statement}
+use Rattle.front_end.proofs.front_end_sizes.Tie as tie
+use Rattle.front_end.proofs.front_end_sizes.Reads as reads
+use Rattle.front_end.proofs.front_end_sizes.Lts as lts
+use Rattle.front_end.proofs.sizes_of.Reads as sizes-of-reads
+use Rattle.header.proofs.read_frame_header.Reads as read-frame-header-reads
+use Rattle.refusals.proofs.number_of.Reads as number-of-reads
+
+-- src/lib.rt:203:11
+read-frame-header-requires : tie.Need-read-frame-header-requires
+read-frame-header-requires c κs = search needs
+
+-- src/lib.rt:204:32
+enum-known-why : tie.Need-enum-known-why
+enum-known-why c = search needs
+
+-- src/lib.rt:205:22
+number-of-requires : tie.Need-number-of-requires
+number-of-requires c κs = search needs
+
+-- src/lib.rt:215:30
+enum-known-h : tie.Need-enum-known-h
+enum-known-h c = search needs
+
+-- src/lib.rt:215:36
+sizes-of-requires : tie.Need-sizes-of-requires
+sizes-of-requires c κs = search needs
+
+-- src/lib.rt:199:1
+returns : tie.Need-returns
+unfolding sizesTold
+returns c =
+    (λ j. record { refusal = c .number-of .ensures j; length = 0; header = 0; side = 0; main = 0; granules = 0; channels = 0; rate = 0; bitrate = 0 })
+    ∙ sym (ap sizesTold (sym (c .before .before .before .before .read-frame-header .ensures) ∙ ap toldHeader (c .before .before .why .given .1)))
+
+-- src/lib.rt:199:1
+returns-2 : tie.Need-returns-2
+returns-2 c =
+    c .sizes-of .ensures ∙ sym (ap sizesTold (sym (c .before .before .before .before .read-frame-header .ensures) ∙ ap toldHeader (c .before .before .h .given .1)))
+
+pub front-end-sizes-spec : {M : Type 1} → statement M
+front-end-sizes-spec =
+    tie.close
+    (tie.spec
+    read-frame-header-requires
+    enum-known-why
+    number-of-requires
+    enum-known-h
+    sizes-of-requires
+    returns
+    returns-2)

@@ -1,0 +1,127 @@
+-- What the exported calls answer, in numbers: 0 where a call is accepted, else document 01's number of the refusal; and what they leave in
+-- lent memory. What is right is `standard`'s: here it is only laid out.
+use mathlib.Core.Path.{_≡_}
+use mathlib.Core.Bool.{Bool, _||_}
+use mathlib.Core.List.{List, [], _∷_, _++_}
+use Prim.Native.Nat.{ℕ, _+_, _*_}
+use lib.Dec.{ltb}
+use lib.IntN.{ℤ}
+use lib.ListN.{length, getD}
+use lib.Seq.{paste}
+use Rattle.standard.specs.Told.{Told, refused, told, pick, verdictOf, toldOr}
+use Rattle.standard.specs.Refusals.{numberOf, refuse, SlotSaid, lacking, refusedBy, counted, SlotTold}
+use Rattle.standard.specs.Header.{hz, bps, headerOf, headerSize, sideSize, mainSize, frameLength, granules, channelCount}
+use Rattle.standard.specs.SideInfo.{sideOf}
+use Rattle.standard.specs.Slots.{Outcome, slotsTold, numbersFrom, readSlots}
+use Rattle.standard.specs.Reservoir.{reservoirAfter, bytesAfter}
+use Rattle.standard.specs.Frame.{Step, noStep, frameCall}
+use Rattle.standard.specs.Reorder.{reorderOf}
+use Rattle.main_data.specs.Slot.{pastRecord}
+use Rattle.standard.specs.declared.FrameHeader.{FrameHeader}
+use Rattle.standard.specs.declared.SideInfo.{SideInfo}
+use Rattle.standard.specs.declared.SlotRecord.{SlotRecord}
+use Rattle.standard.specs.declared.Reservoir.{Reservoir}
+use Rattle.standard.specs.declared.Refusal.the-variants.{UnfitMemory, MadeUpRecord}
+use Rattle.front_end.specs.declared.Sizes.{Sizes}
+use Rattle.front_end.specs.declared.FrameTold.{FrameTold}
+
+-- no refusal has the number 0
+abbrev pub numberTold : Told (Unit {0}) → ℕ
+numberTold (refused k) = k
+numberTold (told u) = 0
+
+-- ---- a slot's row of 63 numbers: what became of it, its count, its 22 long factors and its 39 short ones
+-- 255 for a slot that the frame lacks, which no refusal has either
+abbrev pub saidNumber : SlotSaid → ℕ
+saidNumber lacking = 255
+saidNumber (refusedBy k) = k
+saidNumber (counted n) = 0
+
+abbrev pub saidCount : SlotSaid → ℕ
+saidCount lacking = 0
+saidCount (refusedBy k) = 0
+saidCount (counted n) = n
+
+unfoldable pub slotRow : SlotTold → List ℕ
+slotRow t = saidNumber (t .said) ∷ saidCount (t .said) ∷ (t .long ++ t .short)
+
+-- the lent rows after slots in turn, from a place on
+unfoldable pub rowsFrom : ℕ → List SlotTold → List ℕ → List ℕ
+rowsFrom at [] d = d
+rowsFrom at (t ∷ ts) d = rowsFrom (at + 63) ts (paste d at (slotRow t) 63)
+
+-- only where the call is accepted
+unfoldable pub rowsAfter : Told (Unit {0}) → List SlotTold → List ℕ → List ℕ
+rowsAfter (refused k) ts d = d
+rowsAfter (told u) ts d = rowsFrom 0 ts d
+
+-- ---- a frame
+-- with `room` numbers lent for the rows: too few are refused as any other memory
+unfoldable pub frameStep : List ℕ → List ℕ → ℕ → ℕ → ℕ → Step
+frameStep s lent stated d room = pick (ltb room 252) (noStep (numberOf UnfitMemory)) (frameCall s lent stated d)
+
+unfoldable pub frameTold : ℕ → Step → FrameTold
+frameTold stated p =
+    record {
+      refusal = numberTold (p .verdict);
+      length = p .length;
+      reservoir = reservoirAfter (record { length = stated }) (p .kept) .length;
+    }
+
+-- what is answered of a frame, and what was lent after it: the reservoir's bytes, the numbers, the rows
+pub record FrameDone (lent : List ℕ) (stated : ℕ) (d : List ℤ) (rows : List ℕ) (p : Step) (r : FrameTold) (left : List ℕ) (numbers : List ℤ) (told-rows : List ℕ) : Type 0 where
+  pub answer : r ≡ frameTold stated p
+  pub bytes : left ≡ bytesAfter lent (p .kept)
+  pub numbers-are : numbers ≡ numbersFrom 0 (p .slots) d
+  pub rows-are : told-rows ≡ rowsAfter (p .verdict) (slotsTold (p .slots)) rows
+
+-- ---- calls on a frame's header and side information, which come first in its bytes
+-- what follows a reading, and nothing after a refusal
+unfoldable pub following : {A B : Type 0} → Told A → (A → Told B) → Told B
+following (refused k) f = refused k
+following (told a) f = f a
+
+unfoldable pub under : {B : Type 0} → List ℕ → (FrameHeader → SideInfo → Told B) → Told B
+under s f = following (headerOf s) (λ (h : FrameHeader). following (sideOf h s) (f h))
+
+-- the slots of a frame from given main data
+unfoldable pub slotsStep : List ℕ → List ℕ → ℕ → ℕ → Told (List Outcome)
+slotsStep s main d room =
+    pick (ltb room 252 || ltb d 2304) (refuse UnfitMemory)
+    (under s (λ (h : FrameHeader) (i : SideInfo). readSlots h i main d))
+
+pub record SlotsDone (d : List ℤ) (rows : List ℕ) (t : Told (List Outcome)) (r : ℕ) (numbers : List ℤ) (told-rows : List ℕ) : Type 0 where
+  pub answer : r ≡ numberTold (verdictOf t)
+  pub numbers-are : numbers ≡ numbersFrom 0 (toldOr [] t) d
+  pub rows-are : told-rows ≡ rowsAfter (verdictOf t) (slotsTold (toldOr [] t)) rows
+
+-- the reorder of a slot's numbers by the frame's own record of the n-th slot: the frame must have such a slot
+unfoldable pub reorderBy : FrameHeader → SideInfo → ℕ → List ℤ → Told (List ℤ)
+reorderBy h i n d =
+    pick (ltb n (granules h * channelCount h)) (reorderOf h (getD (i .slots) n pastRecord) d) (refuse MadeUpRecord)
+
+unfoldable pub reorderStep : List ℕ → ℕ → List ℤ → Told (List ℤ)
+reorderStep s n d =
+    pick (ltb (length d) 576) (refuse UnfitMemory)
+    (under s (λ (h : FrameHeader) (i : SideInfo). reorderBy h i n d))
+
+pub record ReorderDone (d : List ℤ) (t : Told (List ℤ)) (r : ℕ) (numbers : List ℤ) : Type 0 where
+  pub answer : r ≡ numberTold (verdictOf t)
+  pub numbers-are : numbers ≡ toldOr d t
+
+-- ---- what a header says of its frame; nothing is told of a refused one
+unfoldable pub sizesTold : Told FrameHeader → Sizes
+sizesTold (refused k) =
+    record { refusal = k; length = 0; header = 0; side = 0; main = 0; granules = 0; channels = 0; rate = 0; bitrate = 0 }
+sizesTold (told h) =
+    record {
+      refusal = 0;
+      length = frameLength h;
+      header = headerSize h;
+      side = sideSize h;
+      main = mainSize h;
+      granules = granules h;
+      channels = channelCount h;
+      rate = hz (h .rate);
+      bitrate = bps (h .bitrate);
+    }
