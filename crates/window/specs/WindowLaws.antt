@@ -11,6 +11,12 @@ use Rattle.window.specs.Window.{roomFor, Put, slidOf}
 pub put-same : {old : List ℕ} {at : ℕ} {t u : List ℕ} {r : ℕ} {left : List ℕ} → t ≡ u → Put old at t r left → Put old at u r left
 put-same {old} {at} {t} {u} {r} {left} e p = subst (λ (x : List ℕ). Put old at x r left) e p
 
+pub put-none : (old : List ℕ) (at : ℕ) → Put old at [] at old
+unfolding roomFor
+put-none old at =
+    let z : roomFor old at [] ≡ 0 = omega arith in
+    record { next = omega arith; bytes = paste-zero old at [] ∙ ap (paste old at []) (sym z) }
+
 -- where there is room, all of it is put
 pub put-whole : {old : List ℕ} {at : ℕ} {t : List ℕ} {r : ℕ} {left : List ℕ} → Put old at t r left → at + length t ≤ length old → left ≡ paste old at t (length t)
 unfolding roomFor

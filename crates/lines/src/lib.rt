@@ -1,0 +1,141 @@
+// The lines of document 01's program `slots`, as text in lent bytes. Each function answers the place after what it put.
+use refusals::number_of;
+use standard::Refusal;
+use standard::SlotAnswer;
+use standard::SlotOutcome;
+use text::put_number;
+use text::put_signed;
+use window::put;
+ghost use mathlib.Core.Path.{_≡_};
+ghost use Prim.Native.Nat.{_/_, _%_};
+ghost use lib.ListN.{take, drop};
+ghost use Rattle.standard.specs.Refusals.{numberOf, toldOutcome};
+ghost use Rattle.standard.specs.Told.{pick};
+ghost use Rattle.window.specs.Window.{Put};
+ghost use Rattle.lines.specs.Said.{frameLine, refusedLine, endLine, slotStart, numbersText, readEnd, notReadEnd, slotLine};
+
+// A frame that was accepted.
+pub fn put_frame(out: &mut [u8], at: usize, n: u64, length: u64) -> usize
+    ensures { λ r. ⌜ Put (now (out .entry)) at (frameLine n length) r (now (out .exit)) ⌝ }
+{
+    let a = put(&mut *out, at, b"frame ");
+    let b = put_number(&mut *out, a, n);
+    let c = put(&mut *out, b, b" length ");
+    let d = put_number(&mut *out, c, length);
+    put(out, d, b"\n")
+}
+
+// A frame that was refused.
+pub fn put_refused(out: &mut [u8], at: usize, n: u64, why: Refusal) -> usize
+    ensures { λ r. ⌜ Put (now (out .entry)) at (refusedLine n (numberOf why)) r (now (out .exit)) ⌝ }
+{
+    let a = put(&mut *out, at, b"frame ");
+    let b = put_number(&mut *out, a, n);
+    let c = put(&mut *out, b, b" refused ");
+    let d = put_number(&mut *out, c, number_of(why) as u64);
+    put(out, d, b"\n")
+}
+
+// The end, with the number of frames that were accepted.
+pub fn put_end(out: &mut [u8], at: usize, n: u64) -> usize
+    ensures { λ r. ⌜ Put (now (out .entry)) at (endLine n) r (now (out .exit)) ⌝ }
+{
+    let a = put(&mut *out, at, b"end ");
+    let b = put_number(&mut *out, a, n);
+    put(out, b, b"\n")
+}
+
+fn put_start(out: &mut [u8], at: usize, granule: u64, channel: u64) -> usize
+    ensures { λ r. ⌜ Put (now (out .entry)) at (slotStart granule channel) r (now (out .exit)) ⌝ }
+{
+    let a = put(&mut *out, at, b"slot ");
+    let b = put_number(&mut *out, a, granule);
+    let c = put(&mut *out, b, b" ");
+    let d = put_number(&mut *out, c, channel);
+    put(out, d, b" ")
+}
+
+fn put_numbers(out: &mut [u8], at: usize, numbers: &[i32]) -> usize
+    ensures { λ r. ⌜ Put (now (out .entry)) at (numbersText (now (numbers .entry))) r (now (out .exit)) ⌝ }
+{
+    let mut next = at;
+    let mut i = 0usize;
+    while i < numbers.len() {
+        let a = put(&mut *out, next, b" ");
+        next = put_signed(&mut *out, a, numbers[i]);
+        i += 1;
+    }
+    next
+}
+
+// The numbers from a place on, at most n of them.
+fn part(numbers: &[i32], from: usize, n: usize) -> &[i32]
+    ensures { λ r. ⌜ now r ≡ take n (drop from (now (numbers .entry))) ⌝ }
+{
+    if numbers.len() <= from {
+        return &numbers[..0];
+    }
+    if numbers.len() - from <= n {
+        return &numbers[from..];
+    }
+    let end = from + n;
+    &numbers[from..end]
+}
+
+fn put_read(out: &mut [u8], at: usize, count: u64, numbers: &[i32]) -> usize
+    ensures { λ r. ⌜ Put (now (out .entry)) at (readEnd count (now (numbers .entry))) r (now (out .exit)) ⌝ }
+{
+    let a = put(&mut *out, at, b"count ");
+    let b = put_number(&mut *out, a, count);
+    let c = put(&mut *out, b, b":");
+    let d = put_numbers(&mut *out, c, numbers);
+    put(out, d, b"\n")
+}
+
+fn put_not_read(out: &mut [u8], at: usize, why: Refusal) -> usize
+    ensures { λ r. ⌜ Put (now (out .entry)) at (notReadEnd (numberOf why)) r (now (out .exit)) ⌝ }
+{
+    let a = put(&mut *out, at, b"refused ");
+    let b = put_number(&mut *out, a, number_of(why) as u64);
+    put(out, b, b"\n")
+}
+
+fn granule(two: bool, n: u64) -> u64
+    ensures { λ r. ⌜ r ≡ pick two (n / 2) n ⌝ }
+{
+    if two { n / 2 } else { n }
+}
+
+fn channel(two: bool, n: u64) -> u64
+    ensures { λ r. ⌜ r ≡ pick two (n % 2) 0 ⌝ }
+{
+    if two { n % 2 } else { 0 }
+}
+
+// Slot n of a frame with two channels, or with one. Its numbers are those from 576 n on, up to its count.
+pub fn put_slot(
+    out: &mut [u8],
+    at: usize,
+    two: bool,
+    n: u8,
+    slot: SlotAnswer,
+    numbers: &[i32],
+) -> usize
+    ensures { λ r. ⌜ Put (now (out .entry)) at (slotLine two n (toldOutcome (slot .outcome)) (now (numbers .entry))) r (now (out .exit)) ⌝ }
+{
+    let o = slot.outcome;
+    let g = granule(two, n as u64);
+    let c = channel(two, n as u64);
+    match o {
+        SlotOutcome::Lacking => at,
+        SlotOutcome::NotRead(why) => {
+            let a = put_start(&mut *out, at, g, c);
+            put_not_read(out, a, why)
+        }
+        SlotOutcome::Read { count } => {
+            let a = put_start(&mut *out, at, g, c);
+            let from = 576 * (n as usize);
+            put_read(out, a, count as u64, part(numbers, from, count as usize))
+        }
+    }
+}

@@ -1,0 +1,272 @@
+// Reads frames from standard input, from an empty reservoir, and writes what is in them, until the input ends or a frame is refused.
+use card::Card;
+use card::Filled;
+use card::Input;
+use card::blank;
+use card::fill;
+use card::taken;
+use card::unread;
+use frame::process_frame;
+use io::write_all;
+use libc::STDERR_FILENO;
+use libc::STDIN_FILENO;
+use libc::STDOUT_FILENO;
+use lines::put_end;
+use lines::put_frame;
+use lines::put_refused;
+use lines::put_slot;
+use reservoir::emptied;
+use sizes::is_two;
+use standard::FrameAnswer;
+use standard::Refusal;
+use standard::Reservoir;
+use standard::Verdict;
+use window::put;
+
+// No frame is longer, so with so many bytes unread the next one is whole.
+const LONGEST: usize = 2048;
+
+// A frame's lines take less than a quarter of the lent bytes: four slots of at most 576 numbers of five characters and a blank.
+const FULL: usize = 49152;
+
+// More frames than any card has; a loop must end.
+const MOST: u64 = 18446744073709551615;
+
+enum Going {
+    On,
+    Stopped,
+    Unread,
+    Unwritten,
+}
+
+// Where the next text goes, and whether to go on.
+struct Place {
+    at: usize,
+    going: Going,
+}
+
+// What goes on from frame to frame beside the lent memory.
+struct Run {
+    card: Card,
+    input: Input,
+    reservoir: Reservoir,
+    place: Place,
+}
+
+// Fills the window where the next frame might not be whole in it.
+fn refill(bytes: &mut [u8], card: Card, input: Input) -> Filled {
+    match input {
+        Input::Open => {
+            if unread(bytes, card).len() < LONGEST {
+                return fill(STDIN_FILENO, bytes, card);
+            }
+            Filled {
+                card,
+                input: Input::Open,
+            }
+        }
+        Input::Ended => Filled {
+            card,
+            input: Input::Ended,
+        },
+        Input::Failed => Filled {
+            card,
+            input: Input::Failed,
+        },
+    }
+}
+
+// Writes the text up to a place, and answers whether it could.
+fn written(out: &[u8], at: usize) -> bool {
+    write_all(STDOUT_FILENO, unread(out, Card { from: 0, end: at }))
+}
+
+// Nothing is left unread: the end of the card, or as far as it could be read.
+fn at_end(at: usize, input: Input) -> Place {
+    match input {
+        Input::Failed => Place {
+            at,
+            going: Going::Unread,
+        },
+        Input::Ended => Place {
+            at,
+            going: Going::Stopped,
+        },
+        Input::Open => Place {
+            at,
+            going: Going::Stopped,
+        },
+    }
+}
+
+// Bytes that are absent because they could not be read are no refusal.
+fn is_unread(why: Refusal, input: Input) -> bool {
+    match input {
+        Input::Failed => {
+            if let Refusal::AbsentBytes = why {
+                true
+            } else {
+                false
+            }
+        }
+        Input::Ended => false,
+        Input::Open => false,
+    }
+}
+
+fn refused(out: &mut [u8], at: usize, n: u64, why: Refusal, input: Input) -> Place {
+    if is_unread(why, input) {
+        return Place {
+            at,
+            going: Going::Unread,
+        };
+    }
+    let next = put_refused(out, at, n, why);
+    Place {
+        at: next,
+        going: Going::Stopped,
+    }
+}
+
+fn put_slots(out: &mut [u8], at: usize, a: FrameAnswer, numbers: &[i32]) -> usize {
+    let h = a.header;
+    let channels = h.channels;
+    let two = is_two(channels);
+    let slots = a.slots;
+    let b = put_slot(&mut *out, at, two, 0, slots[0], numbers);
+    let c = put_slot(&mut *out, b, two, 1, slots[1], numbers);
+    let d = put_slot(&mut *out, c, two, 2, slots[2], numbers);
+    put_slot(out, d, two, 3, slots[3], numbers)
+}
+
+// A frame's lines, written out where the lent bytes might not hold those of the next one too.
+fn accepted(out: &mut [u8], at: usize, n: u64, a: FrameAnswer, numbers: &[i32]) -> Place {
+    let first = put_frame(&mut *out, at, n, a.length as u64);
+    let next = put_slots(&mut *out, first, a, numbers);
+    if next < FULL {
+        return Place {
+            at: next,
+            going: Going::On,
+        };
+    }
+    if written(out, next) {
+        return Place {
+            at: 0,
+            going: Going::On,
+        };
+    }
+    Place {
+        at: 0,
+        going: Going::Unwritten,
+    }
+}
+
+fn told(out: &mut [u8], at: usize, n: u64, a: FrameAnswer, input: Input, numbers: &[i32]) -> Place {
+    let v = a.verdict;
+    match v {
+        Verdict::Refused(why) => refused(out, at, n, why, input),
+        Verdict::Accepted => accepted(out, at, n, a, numbers),
+    }
+}
+
+// The n-th frame.
+fn step(
+    window: &mut [u8],
+    bytes: &mut [u8],
+    numbers: &mut [i32],
+    out: &mut [u8],
+    run: Run,
+    n: u64,
+) -> Run {
+    let card = run.card;
+    let input = run.input;
+    let reservoir = run.reservoir;
+    let place = run.place;
+    let at = place.at;
+    let f = refill(&mut *window, card, input);
+    let filled = f.card;
+    let source = f.input;
+    let frame = unread(window, filled);
+    if frame.len() == 0 {
+        let end = at_end(at, source);
+        return Run {
+            card: filled,
+            input: source,
+            reservoir,
+            place: end,
+        };
+    }
+    let a = process_frame(frame, &mut *bytes, reservoir, &mut *numbers);
+    let kept = a.reservoir;
+    let next = told(out, at, n, a, source, numbers);
+    Run {
+        card: taken(filled, a.length),
+        input: source,
+        reservoir: kept,
+        place: next,
+    }
+}
+
+fn say(words: &[u8]) {
+    write_all(STDERR_FILENO, words);
+}
+
+// The last line, after n frames; or, where reading or writing failed, a word to whoever runs this: that is no end of the card.
+fn finish(out: &mut [u8], place: Place, n: u64) {
+    let at = place.at;
+    let going = place.going;
+    match going {
+        Going::Unwritten => say(b"slots: the output could not be written\n"),
+        Going::Unread => {
+            written(out, at);
+            say(b"slots: the input could not be read\n");
+        }
+        Going::Stopped => {
+            let end = put_end(&mut *out, at, n);
+            if !written(out, end) {
+                say(b"slots: the output could not be written\n");
+            }
+        }
+        Going::On => {}
+    }
+}
+
+fn walk(window: &mut [u8], bytes: &mut [u8], numbers: &mut [i32], out: &mut [u8]) {
+    let at = put(&mut *out, 0, b"front end\n");
+    let mut run = Run {
+        card: blank(),
+        input: Input::Open,
+        reservoir: emptied(),
+        place: Place {
+            at,
+            going: Going::On,
+        },
+    };
+    let mut n = 0u64;
+    while n < MOST {
+        run = step(
+            &mut *window,
+            &mut *bytes,
+            &mut *numbers,
+            &mut *out,
+            run,
+            n + 1,
+        );
+        let place = run.place;
+        let going = place.going;
+        if let Going::On = going {
+            n += 1;
+        } else {
+            finish(out, place, n);
+            return;
+        }
+    }
+}
+
+fn main() {
+    let mut window = io::large_buffer();
+    let mut bytes = io::buffer();
+    let mut numbers = [0i32; 2304];
+    let mut out = io::large_buffer();
+    walk(&mut window, &mut bytes, &mut numbers, &mut out);
+}
