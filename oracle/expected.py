@@ -199,7 +199,7 @@ def whole(f, told):
             need(him.first == words[3], 'the whole and the slot have different counts')
             need(him.row('long') == zeroed(f, k), 'the whole and the slot have different factors')
             need({w: l for w, l in him.rows.items() if w != 'long'} == {w: l for w, l in mine.rows.items() if w != 'long'}, 'the whole and the slot differ')
-        late = int(words[1]) > length
+        late = int(words[1]) > length and k != max(told)
     need(not f.failure or late, 'the Rust fails in the whole')
     return entries | ({2} if late else set())
 
@@ -252,15 +252,13 @@ def expected(lines, mended, left, before):
     if lines[0].startswith('failed'):
         return failed(lines, left, before)
     f = Frame(mended or lines)
-    if not mended and f.failure is None and not any(l.startswith('alone') or l.startswith('reordered') for l in lines):
+    if not mended and f.failure is None and not any(f.side[1:]) and not any(l.startswith(('alone', 'reordered')) for l in lines):
         need(f.length <= left, 'the Rust reads bytes that are not there')
         return lines, ()
     told = slots(f)
     ours = f.head + slot_lines(f, told)
     entries = entries_of(f, told)
-    published = [l for l in lines]
-    if 'alone' in ''.join(published):
-        published = published[:next(i for i, l in enumerate(published) if l.startswith('alone'))]
+    published = lines[:next((i for i, l in enumerate(lines) if l.startswith('alone')), len(lines))]
     if published == ours:
         return ours, ()
     if mended:

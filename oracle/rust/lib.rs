@@ -97,7 +97,8 @@ fn side_rows(out: &mut String, h: &FrameHeader, side: &SideInfo) {
             };
             let mut values = vec![g as u32, c as u32, u32::from(r.part2_3_length), u32::from(r.big_values)];
             values.extend(&[u32::from(r.global_gain), u32::from(r.scalefac_compress), block]);
-            values.extend(r.subblock_gain.iter().map(|&x| x.to_bits() >> 16));
+            assert!(r.subblock_gain.iter().all(|&x| x.to_bits() == (x as u8 as f32).to_bits()));
+            values.extend(r.subblock_gain.iter().map(|&x| x as u32));
             values.extend(r.table_select.iter().map(|&x| u32::from(x)));
             values.extend(&[u32::from(r.region0_count), u32::from(r.region1_count)]);
             values.extend(&[r.preflag as u32, r.scalefac_scale as u32, r.count1table_select as u32]);

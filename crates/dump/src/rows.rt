@@ -1,0 +1,300 @@
+// A frame's answer as lines of text in lent bytes: a word and numbers, each after a space. Each function answers the place after
+// what it put.
+use fields::header_values;
+use fields::is_told;
+use fields::record_values;
+use fields::side_values;
+use refusals::number_of;
+use reorder::reorder;
+use sizes::channel_count;
+use sizes::granules;
+use standard::BlockType;
+use standard::FrameAnswer;
+use standard::FrameHeader;
+use standard::SideInfo;
+use standard::SlotAnswer;
+use standard::SlotOutcome;
+use standard::SlotRecord;
+use standard::Verdict;
+use text::put_number;
+use text::put_signed;
+use window::put;
+ghost use mathlib.Core.Path.{_≡_};
+ghost use Prim.Native.Nat.{_≤_, min};
+
+// Numbers of a slot.
+const SLOT: usize = 576;
+
+fn put_item(out: &mut [u8], at: usize, n: u64) -> usize {
+    let next = put(&mut *out, at, b" ");
+    put_number(out, next, n)
+}
+
+fn put_row(out: &mut [u8], at: usize, word: &[u8], values: &[u64]) -> usize {
+    let mut next = put(&mut *out, at, word);
+    let mut i = 0usize;
+    while i < values.len() {
+        next = put_item(&mut *out, next, values[i]);
+        i += 1;
+    }
+    put(out, next, b"\n")
+}
+
+fn wide(n: u8) -> u64 {
+    n as u64
+}
+
+fn put_factors(out: &mut [u8], at: usize, word: &[u8], factors: &[u8]) -> usize {
+    let mut next = put(&mut *out, at, word);
+    let mut i = 0usize;
+    while i < factors.len() {
+        next = put_item(&mut *out, next, wide(factors[i]));
+        i += 1;
+    }
+    put(out, next, b"\n")
+}
+
+fn put_numbers(out: &mut [u8], at: usize, word: &[u8], numbers: &[i32]) -> usize {
+    let mut next = put(&mut *out, at, word);
+    let mut i = 0usize;
+    while i < numbers.len() {
+        next = put(&mut *out, next, b" ");
+        next = put_signed(&mut *out, next, numbers[i]);
+        i += 1;
+    }
+    put(out, next, b"\n")
+}
+
+fn least(a: usize, b: usize) -> usize
+    ensures { λ r. ⌜ r ≡ min a b ⌝ }
+{
+    if a < b { a } else { b }
+}
+
+fn first(numbers: &[i32], n: usize) -> &[i32] {
+    let from = 0usize;
+    let end = least(n, numbers.len());
+    &numbers[from..end]
+}
+
+// The numbers of the slot n.
+fn part(numbers: &[i32], n: u8) -> &[i32] {
+    let from = least(SLOT * n as usize, numbers.len());
+    let end = least(from + SLOT, numbers.len());
+    &numbers[from..end]
+}
+
+// A slot's numbers after the reorder.
+fn put_reordered(
+    out: &mut [u8],
+    at: usize,
+    h: FrameHeader,
+    r: SlotRecord,
+    numbers: &[i32],
+) -> usize {
+    let mut after = [0i32; 576];
+    let end = least(SLOT, numbers.len());
+    let mut i = 0usize;
+    while i < end {
+        after[i] = numbers[i];
+        i += 1;
+    }
+    reorder(h, r, &mut after);
+    put_numbers(out, at, b"reordered", &after)
+}
+
+fn is_short(b: BlockType) -> bool {
+    match b {
+        BlockType::Long => false,
+        BlockType::Start => false,
+        BlockType::Short => true,
+        BlockType::End => false,
+    }
+}
+
+fn put_slot_factors(out: &mut [u8], at: usize, s: SlotAnswer) -> usize {
+    let long = s.long;
+    let next = put_factors(&mut *out, at, b"long", &long);
+    let short = s.short;
+    put_factors(out, next, b"short", &short)
+}
+
+// A slot that was read: its count, factors and numbers, and of a short block its numbers after the reorder.
+fn put_read(
+    out: &mut [u8],
+    at: usize,
+    h: FrameHeader,
+    r: SlotRecord,
+    s: SlotAnswer,
+    count: u16,
+    numbers: &[i32],
+) -> usize {
+    let a = put_slot_factors(&mut *out, at, s);
+    let b = put_numbers(&mut *out, a, b"numbers", first(numbers, count as usize));
+    let block = r.block;
+    if is_short(block) {
+        return put_reordered(out, b, h, r, numbers);
+    }
+    b
+}
+
+fn put_slot(
+    out: &mut [u8],
+    at: usize,
+    h: FrameHeader,
+    r: SlotRecord,
+    s: SlotAnswer,
+    place: Place,
+    numbers: &[i32],
+) -> usize {
+    let outcome = s.outcome;
+    match outcome {
+        SlotOutcome::Lacking => at,
+        SlotOutcome::NotRead(why) => put_row(
+            out,
+            at,
+            b"missed",
+            &[place.granule, place.channel, number_of(why) as u64],
+        ),
+        SlotOutcome::Read { count } => {
+            let next = put_row(
+                &mut *out,
+                at,
+                b"slot",
+                &[place.granule, place.channel, count as u64],
+            );
+            put_read(out, next, h, r, s, count, numbers)
+        }
+    }
+}
+
+// Which granule and channel a slot is of.
+struct Place {
+    granule: u64,
+    channel: u64,
+}
+
+fn place_of(h: FrameHeader, n: u8) -> Place {
+    if channel_count(h) == 1 {
+        return Place {
+            granule: n as u64,
+            channel: 0,
+        };
+    }
+    Place {
+        granule: (n / 2) as u64,
+        channel: (n % 2) as u64,
+    }
+}
+
+fn put_record(out: &mut [u8], at: usize, h: FrameHeader, r: SlotRecord, n: u8) -> usize {
+    let p = place_of(h, n);
+    let v = record_values(r);
+    let mut next = put(&mut *out, at, b"record");
+    next = put_item(&mut *out, next, p.granule);
+    next = put_item(&mut *out, next, p.channel);
+    put_row(out, next, b"", &v)
+}
+
+// How many slots a frame has.
+fn slot_count(h: FrameHeader) -> usize
+    ensures { λ r. ⌜ r ≤ 4 ⌝ }
+{
+    if granules(h) == 1 {
+        if channel_count(h) == 1 {
+            return 1;
+        }
+        return 2;
+    }
+    if channel_count(h) == 1 {
+        return 2;
+    }
+    4
+}
+
+// The records of the slots that the frame has.
+fn put_records(out: &mut [u8], at: usize, h: FrameHeader, i: SideInfo) -> usize {
+    let slots = i.slots;
+    let count = slot_count(h);
+    let mut next = at;
+    let mut n = 0usize;
+    while n < count {
+        let r = slots[n];
+        next = put_record(&mut *out, next, h, r, n as u8);
+        n += 1;
+    }
+    next
+}
+
+fn put_slots(out: &mut [u8], at: usize, a: FrameAnswer, numbers: &[i32]) -> usize {
+    let h = a.header;
+    let i = a.info;
+    let records = i.slots;
+    let slots = a.slots;
+    let mut next = at;
+    let mut n = 0usize;
+    while n < 4 {
+        let r = records[n];
+        let s = slots[n];
+        next = put_slot(
+            &mut *out,
+            next,
+            h,
+            r,
+            s,
+            place_of(h, n as u8),
+            part(numbers, n as u8),
+        );
+        n += 1;
+    }
+    next
+}
+
+// A frame's first line: where it was tried, and its length and the reservoir's, or the number by which it is refused.
+fn put_first(out: &mut [u8], at: usize, place: u64, a: FrameAnswer) -> usize {
+    let verdict = a.verdict;
+    let kept = a.reservoir;
+    match verdict {
+        Verdict::Accepted => put_row(
+            out,
+            at,
+            b"frame",
+            &[place, a.length as u64, kept.length as u64],
+        ),
+        Verdict::Refused(why) => {
+            if is_told(verdict) {
+                return put_row(
+                    out,
+                    at,
+                    b"reach",
+                    &[place, a.length as u64, kept.length as u64],
+                );
+            }
+            put_row(out, at, b"refused", &[place, number_of(why) as u64])
+        }
+    }
+}
+
+pub(crate) fn put_answer(
+    out: &mut [u8],
+    at: usize,
+    place: u64,
+    a: FrameAnswer,
+    numbers: &[i32],
+) -> usize {
+    let first = put_first(&mut *out, at, place, a);
+    let verdict = a.verdict;
+    if is_told(verdict) {
+        let h = a.header;
+        let i = a.info;
+        let b = put_row(&mut *out, first, b"header", &header_values(h));
+        let c = put_row(&mut *out, b, b"side", &side_values(i));
+        let d = put_records(&mut *out, c, h, i);
+        return put_slots(out, d, a, numbers);
+    }
+    first
+}
+
+pub(crate) fn put_card(out: &mut [u8], at: usize, n: u64) -> usize {
+    put_row(out, at, b"card", &[n])
+}

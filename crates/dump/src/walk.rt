@@ -1,0 +1,276 @@
+// The walk over the input: from try to try of a card, and from card to card.
+use crate::rows::put_answer;
+use crate::rows::put_card;
+use card::Card;
+use card::Input;
+use card::blank;
+use card::fill;
+use card::taken;
+use card::unread;
+use fields::step;
+use frame::process_frame;
+use libc::STDIN_FILENO;
+use libc::STDOUT_FILENO;
+use reservoir::emptied;
+use standard::Reservoir;
+use standard::Verdict;
+ghost use mathlib.Core.Path.{_≡_};
+ghost use Prim.Native.Nat.{_<_, min};
+
+// The longest frame and more: what a try must find in the window, unless the input has ended.
+const AHEAD: usize = 8192;
+
+// Where the text is written out: what one try prints finds room after it.
+const FULL: usize = 32768;
+
+const NO_END: usize = 0xffff_ffff_ffff_ffff;
+
+// More turns than any input takes: nothing says that an input ends, so the turns are counted.
+const TURNS: u64 = 0xffff_ffff_ffff_ffff;
+
+pub(crate) struct Words {
+    on: bool,
+    many: bool,
+}
+
+// Where the walk is: the window over the input and whether more may come; the bytes that the present card still has, and whether
+// they are passed over; the place in it; the reservoir; the end of the text that is not written out yet; and the next card's number.
+pub(crate) struct Walk {
+    card: Card,
+    open: bool,
+    left: usize,
+    skip: bool,
+    place: u64,
+    reservoir: Reservoir,
+    at: usize,
+    number: u64,
+    done: bool,
+}
+
+fn least(a: usize, b: usize) -> usize
+    ensures { λ r. ⌜ r ≡ min a b ⌝ }
+{
+    if a < b { a } else { b }
+}
+
+fn same(a: &[u8], b: &[u8]) -> bool {
+    if a.len() != b.len() {
+        return false;
+    }
+    let mut i = 0usize;
+    while i < a.len() {
+        if a[i] != b[i] {
+            return false;
+        }
+        i += 1;
+    }
+    true
+}
+
+fn is_word(i: usize, word: &[u8]) -> bool {
+    let mut said = io::buffer();
+    let n = os::arg(i, &mut said);
+    same(&said[..n], word)
+}
+
+pub(crate) fn read_words() -> Words {
+    Words {
+        on: is_word(1, b"on") | is_word(2, b"on"),
+        many: is_word(1, b"cards") | is_word(2, b"cards"),
+    }
+}
+
+fn start() -> Walk {
+    Walk {
+        card: blank(),
+        open: true,
+        left: 0,
+        skip: false,
+        place: 0,
+        reservoir: emptied(),
+        at: 0,
+        number: 0,
+        done: false,
+    }
+}
+
+// All of the text written out.
+pub(crate) fn flushed(out: &[u8], w: Walk) -> Walk {
+    let from = 0usize;
+    let end = least(w.at, out.len());
+    io::write_all(STDOUT_FILENO, &out[from..end]);
+    let mut next = w;
+    next.at = 0;
+    next
+}
+
+fn finished(w: Walk) -> Walk {
+    let mut next = w;
+    next.done = true;
+    next
+}
+
+fn is_open(input: Input) -> bool {
+    match input {
+        Input::Open => true,
+        Input::Ended => false,
+        Input::Failed => {
+            io::write_all(STDOUT_FILENO, b"unreadable\n");
+            false
+        }
+    }
+}
+
+// The window filled up, where too little is ahead.
+fn filled(window: &mut [u8], w: Walk) -> Walk {
+    let c = w.card;
+    if (unread(window, c).len() < AHEAD) & w.open {
+        let f = fill(STDIN_FILENO, window, c);
+        let input = f.input;
+        let filled_card = f.card;
+        let mut next = w;
+        next.card = filled_card;
+        next.open = is_open(input);
+        return next;
+    }
+    w
+}
+
+// A card of some bytes begins, with an empty reservoir.
+fn opened(out: &mut [u8], w: Walk, card: Card, left: usize) -> Walk {
+    Walk {
+        card,
+        open: w.open,
+        left,
+        skip: false,
+        place: 0,
+        reservoir: emptied(),
+        at: put_card(out, w.at, w.number),
+        number: std::num::wrapping_add_u64(w.number, 1),
+        done: false,
+    }
+}
+
+fn wide(n: u8) -> usize
+    ensures { λ r. ⌜ r < 256 ⌝ }
+{
+    n as usize
+}
+
+// The next of many cards, if there is one.
+fn next_card(out: &mut [u8], window: &[u8], w: Walk) -> Walk {
+    let c = w.card;
+    let s = unread(window, c);
+    if s.len() < 4 {
+        return finished(w);
+    }
+    let left = 16_777_216 * wide(s[0]) + 65_536 * wide(s[1]) + 256 * wide(s[2]) + wide(s[3]);
+    opened(out, w, taken(c, 4), left)
+}
+
+fn begin(out: &mut [u8], window: &[u8], w: Walk, said: Words) -> Walk {
+    if said.many {
+        return next_card(out, window, w);
+    }
+    if w.number == 0 {
+        let c = w.card;
+        return opened(out, w, c, NO_END);
+    }
+    finished(w)
+}
+
+// n bytes further on the card.
+fn gone(w: Walk, n: usize) -> Walk {
+    let c = w.card;
+    let left = w.left;
+    let mut next = w;
+    let further = taken(c, n);
+    next.card = further;
+    next.left = left - least(n, left);
+    next.place = std::num::wrapping_add_u64(w.place, n as u64);
+    next
+}
+
+fn skipped(window: &[u8], w: Walk) -> Walk {
+    let c = w.card;
+    let n = least(unread(window, c).len(), w.left);
+    if n == 0 {
+        return finished(w);
+    }
+    gone(w, n)
+}
+
+fn is_accepted(v: Verdict) -> bool {
+    match v {
+        Verdict::Accepted => true,
+        Verdict::Refused(_) => false,
+    }
+}
+
+// One try of the frame step.
+fn attempt(
+    out: &mut [u8],
+    window: &[u8],
+    bytes: &mut [u8],
+    numbers: &mut [i32],
+    w: Walk,
+    said: Words,
+) -> Walk {
+    let c = w.card;
+    let s = unread(window, c);
+    let n = least(s.len(), w.left);
+    if n == 0 {
+        return finished(w);
+    }
+    let kept = w.reservoir;
+    let from = 0usize;
+    let a = process_frame(&s[from..n], bytes, kept, &mut *numbers);
+    let verdict = a.verdict;
+    let reservoir = a.reservoir;
+    let mut next = gone(w, step(verdict, a.length));
+    next.at = put_answer(out, w.at, w.place, a, numbers);
+    next.reservoir = reservoir;
+    next.skip = !(is_accepted(verdict) | said.on);
+    next
+}
+
+// The window and the text are seen to; then a card begins, or bytes are passed over, or a frame is tried.
+fn turn(
+    out: &mut [u8],
+    window: &mut [u8],
+    bytes: &mut [u8],
+    numbers: &mut [i32],
+    w: Walk,
+    said: Words,
+) -> Walk {
+    let a = filled(&mut *window, w);
+    if a.left == 0 {
+        return begin(out, window, a, said);
+    }
+    if a.skip {
+        return skipped(window, a);
+    }
+    if FULL < a.at {
+        return flushed(out, a);
+    }
+    attempt(out, window, bytes, numbers, a, said)
+}
+
+pub(crate) fn run(
+    out: &mut [u8],
+    window: &mut [u8],
+    bytes: &mut [u8],
+    numbers: &mut [i32],
+    said: Words,
+) -> Walk {
+    let mut w = start();
+    let mut turns = TURNS;
+    while 0 < turns {
+        if w.done {
+            return w;
+        }
+        w = turn(&mut *out, &mut *window, &mut *bytes, &mut *numbers, w, said);
+        turns -= 1;
+    }
+    w
+}
