@@ -18,7 +18,7 @@ use Rattle.standard.specs.Codes.{escapeWidth}
 use Rattle.standard.specs.Numbers.{pairOf, quadOf, regionsOf}
 use Rattle.standard.specs.Header.{bps as bpsOf, hz as hzOf, isMpeg1, isTwo, isIntensity, headerSize, dataSize, frameLength, sideSize, mainSize, granules as granulesOf, channelCount, headerOf, isHeader}
 use Rattle.standard.specs.Record.{isShort, isRecord, compressWidth, region0Of, region1Of, gainNumber}
-use Rattle.standard.specs.Refusals.{toldHeader, Answers, refuse, toldSlot, numberOf}
+use Rattle.standard.specs.Refusals.{toldHeader, Answers, refuse, toldSlot, numberOf, toldOutcome}
 use Rattle.standard.specs.SideInfo.{isSide, sideOf, noSide}
 use Rattle.standard.specs.Factors.{planBits, planOf, longFactors, shortFactors, bandsOf}
 use Rattle.standard.specs.Reservoir.{emptied as nothing, Turned, turnIn}
@@ -36,6 +36,8 @@ use Rattle.window.specs.Window.{Put, slidOf}
 use Rattle.text.specs.Text.{decimalOf, signedOf}
 use Rattle.card.specs.Window.{unreadOf, takenOf, Slid}
 use Rattle.fields.specs.Values.{headerValues, sideValues, recordValues, isTold, stepOf}
+use Rattle.lines.specs.Said.{frameLine, refusedLine, endLine, slotLine}
+use Rattle.front_end.specs.Calls.{FrameDone, frameStep, SlotsDone, slotsStep, ReorderDone, reorderStep, sizesTold}
 use Rattle.bits.proofs.bit.Reads as bit
 use Rattle.bits.proofs.bit.Kinds as bit-kinds
 use Rattle.bits.proofs.field.Reads as field
@@ -162,6 +164,24 @@ use Rattle.fields.proofs.is_told.Reads as is-told
 use Rattle.fields.proofs.is_told.Kinds as is-told-kinds
 use Rattle.fields.proofs.step.Reads as step
 use Rattle.fields.proofs.step.Kinds as step-kinds
+use Rattle.lines.proofs.put_frame.Reads as put-frame
+use Rattle.lines.proofs.put_frame.Kinds as put-frame-kinds
+use Rattle.lines.proofs.put_refused.Reads as put-refused
+use Rattle.lines.proofs.put_refused.Kinds as put-refused-kinds
+use Rattle.lines.proofs.put_end.Reads as put-end
+use Rattle.lines.proofs.put_end.Kinds as put-end-kinds
+use Rattle.lines.proofs.put_slot.Reads as put-slot
+use Rattle.lines.proofs.put_slot.Kinds as put-slot-kinds
+use Rattle.front_end.proofs.front_end_frame.Reads as front-end-frame
+use Rattle.front_end.proofs.front_end_frame.Kinds as front-end-frame-kinds
+use Rattle.front_end.proofs.front_end_slots.Reads as front-end-slots
+use Rattle.front_end.proofs.front_end_slots.Kinds as front-end-slots-kinds
+use Rattle.front_end.proofs.front_end_emptied.Reads as front-end-emptied
+use Rattle.front_end.proofs.front_end_emptied.Kinds as front-end-emptied-kinds
+use Rattle.front_end.proofs.front_end_reorder.Reads as front-end-reorder
+use Rattle.front_end.proofs.front_end_reorder.Kinds as front-end-reorder-kinds
+use Rattle.front_end.proofs.front_end_sizes.Reads as front-end-sizes
+use Rattle.front_end.proofs.front_end_sizes.Kinds as front-end-sizes-kinds
 
 -- ---- bits
 -- 11172-3, 2.4.1 (bslbf)
@@ -434,3 +454,41 @@ is-told-is c = c .promised
 -- no clause: where the next try begins
 pub step-is : (c : Call step-kinds.ps step-kinds.r step.Post) → c .answer ≡ stepOf (c .args .0) (c .args .1 .0)
 step-is c = c .promised
+
+-- ---- lines
+-- document 01, "Worked from bytes": the output of `slots`
+pub put-frame-is : (c : Call put-frame-kinds.ps put-frame-kinds.r put-frame.Post) → Put (now (c .args .0)) (c .args .1 .0) (frameLine (c .args .1 .1 .0) (c .args .1 .1 .1 .0)) (c .answer) (now (c .exit .0))
+put-frame-is c = c .promised
+
+-- document 01, "Worked from bytes": the output of `slots`
+pub put-refused-is : (c : Call put-refused-kinds.ps put-refused-kinds.r put-refused.Post) → Put (now (c .args .0)) (c .args .1 .0) (refusedLine (c .args .1 .1 .0) (numberOf (c .args .1 .1 .1 .0))) (c .answer) (now (c .exit .0))
+put-refused-is c = c .promised
+
+-- document 01, "Worked from bytes": the output of `slots`
+pub put-end-is : (c : Call put-end-kinds.ps put-end-kinds.r put-end.Post) → Put (now (c .args .0)) (c .args .1 .0) (endLine (c .args .1 .1 .0)) (c .answer) (now (c .exit .0))
+put-end-is c = c .promised
+
+-- document 01, "Worked from bytes": the output of `slots`
+pub put-slot-is : (c : Call put-slot-kinds.ps put-slot-kinds.r put-slot.Post) → Put (now (c .args .0)) (c .args .1 .0) (slotLine (c .args .1 .1 .0) (c .args .1 .1 .1 .0) (toldOutcome ((c .args .1 .1 .1 .1 .0) .outcome)) (now (c .args .1 .1 .1 .1 .1 .0))) (c .answer) (now (c .exit .0))
+put-slot-is c = c .promised
+
+-- ---- front_end
+-- as process_frame, in numbers
+pub front-end-frame-is : (c : Call front-end-frame-kinds.ps front-end-frame-kinds.r front-end-frame.Post) → FrameDone (now (c .args .1 .0)) (c .args .1 .1 .0) (now (c .args .1 .1 .1 .0)) (now (c .args .1 .1 .1 .1 .0)) (frameStep (now (c .args .0)) (now (c .args .1 .0)) (c .args .1 .1 .0) (length (now (c .args .1 .1 .1 .0))) (length (now (c .args .1 .1 .1 .1 .0)))) (c .answer) (now (c .exit .1 .0)) (now (c .exit .1 .1 .1 .0)) (now (c .exit .1 .1 .1 .1 .0))
+front-end-frame-is c = c .promised
+
+-- as read_slots, in numbers
+pub front-end-slots-is : (c : Call front-end-slots-kinds.ps front-end-slots-kinds.r front-end-slots.Post) → SlotsDone (now (c .args .1 .1 .0)) (now (c .args .1 .1 .1 .0)) (slotsStep (now (c .args .0)) (now (c .args .1 .0)) (length (now (c .args .1 .1 .0))) (length (now (c .args .1 .1 .1 .0)))) (c .answer) (now (c .exit .1 .1 .0)) (now (c .exit .1 .1 .1 .0))
+front-end-slots-is c = c .promised
+
+-- as emptied
+pub front-end-emptied-is : (c : Call front-end-emptied-kinds.ps front-end-emptied-kinds.r front-end-emptied.Post) → c .answer ≡ nothing .length
+front-end-emptied-is c = c .promised
+
+-- as reorder, by the frame's own record
+pub front-end-reorder-is : (c : Call front-end-reorder-kinds.ps front-end-reorder-kinds.r front-end-reorder.Post) → ReorderDone (now (c .args .1 .1 .0)) (reorderStep (now (c .args .0)) (c .args .1 .0) (now (c .args .1 .1 .0))) (c .answer) (now (c .exit .1 .1 .0))
+front-end-reorder-is c = c .promised
+
+-- as read_frame_header and the sizes
+pub front-end-sizes-is : (c : Call front-end-sizes-kinds.ps front-end-sizes-kinds.r front-end-sizes.Post) → c .answer ≡ sizesTold (headerOf (now (c .args .0)))
+front-end-sizes-is c = c .promised

@@ -11,6 +11,7 @@ use lib.Dec.{ltb}
 use lib.IntN.{ℤ, pos}
 use lib.ListN.{length, getD, take, replicate, set, length-replicate}
 use Rattle.standard.specs.Told.{pick, Told, refused, told, toldOr, verdictOf}
+use Rattle.standard.specs.ToldLaws.{passed}
 use Rattle.standard.specs.Refusals.{toldVerdict, lacking, refusedBy, counted, SlotTold}
 use Rattle.standard.specs.RefusalsLaws.{answers-told}
 use Rattle.standard.specs.RowsLaws.{every, every-at}
@@ -24,13 +25,13 @@ use Rattle.standard.specs.Record.{isShort, absent, recordOf, isRecord}
 use Rattle.standard.specs.RecordBits.{record-known}
 use Rattle.standard.specs.SideInfo.{isSide}
 use Rattle.standard.specs.SideLaws.{slot-record}
-use Rattle.standard.specs.Slots.{Outcome, slotsOf, readSlots}
+use Rattle.standard.specs.Slots.{Outcome, slotsOf, readSlots, slotsTold, numbersFrom}
 use Rattle.standard.specs.SlotsLaws.{read-call, records}
 use Rattle.standard.specs.SlotsLaws as slots-laws
 use Rattle.standard.specs.ReservoirLaws.{few-lent}
 use Rattle.standard.specs.ReorderLaws as reorder-laws
-use Rattle.standard.specs.Reservoir.{turnVerdict, emptied as nothing}
-use Rattle.standard.specs.Frame.{Step, frameCall, frameOf}
+use Rattle.standard.specs.Reservoir.{turnVerdict, emptied as nothing, bytesAfter}
+use Rattle.standard.specs.Frame.{Step, frameCall, frameOf, noStep}
 use Rattle.standard.specs.FrameLaws.{call-fits}
 use Rattle.standard.specs.StepLaws.{way}
 use Rattle.standard.specs.Worked.{frameF, long, reachingBack, step, slotsBy}
@@ -48,6 +49,8 @@ use Rattle.huffman.specs.declared.HuffmanAnswer.the-variants.{Uncounted}
 use Rattle.codes.specs.Flat.{trees}
 use Rattle.demands.proofs.Calls.{HuffmanCall, slotSaid, FrameStep, frame, bytes, reservoir, numbers, SlotsCall, slotsHeader, slotsInfo, mainData, slotsNumbers, TurnCall, ReorderCall, reorderHeader, reorderRecord, reorderNumbers, SideInfoCall, IsHeaderCall, IsSideInfoCall, IsRecordCall, MainSizeCall, EmptiedCall, TreesCall, LookupCall, lookupTrees, lookupTable, lookupBits}
 use Rattle.demands.proofs.Made.{lend, answerOf, answersOf, fourOf, frameStep, slotsCall, sideInfoCall, reorderCall, turnCall}
+use Rattle.front_end.specs.Calls.{rowsAfter, frameStep as stepIn, frameTold, slotsStep, reorderStep}
+use Rattle.demands.proofs.Exported.{ExportedFrame, ExportedSlots, ExportedReorder}
 use Rattle.demands.proofs.Bounds.{InTurn}
 use Rattle.demands.proofs.Worked.{Lent, way-known}
 
@@ -289,3 +292,49 @@ looking =
 pub looked : (t : TreesCall) × (lookupTrees looking ≡ t .answer) × In (entry 0 (true ∷ [])) (published (lookupTable looking)) × (starts (true ∷ []) (lookupBits looking) ≡ true)
 unfolding published codes table1 pair lowBits starts step
 looked = (record { lifetimes = tt; args = tt; answer = trees; exit = tt; promised = refl }, refl, here, refl)
+
+-- ---- Exported: calls made from values; refused for the memory, and, as the frame step, by 13
+unfoldable pub exported : (s lent : List ℕ) (stated : ℕ) (d : List ℤ) (rows : List ℕ) → ExportedFrame
+exported s lent stated d rows =
+    let p = stepIn s lent stated (length d) (length rows) in
+    record {
+      lifetimes = ([], ([], ([], ([], tt))));
+      args = (lend s, (lend lent, (stated, (lend d, (lend rows, tt)))));
+      answer = frameTold stated p;
+      exit = (lend s, (lend (bytesAfter lent (p .kept)), (stated, (lend (numbersFrom 0 (p .slots) d), (lend (rowsAfter (p .verdict) (slotsTold (p .slots)) rows), tt)))));
+      promised = record { answer = refl; bytes = refl; numbers-are = refl; rows-are = refl };
+    }
+
+pub exported-refused : exported [] [] 0 [] [] .answer .refusal ≡ 1
+unfolding exported stepIn pick frameTold noStep
+exported-refused = refl
+
+pub exported-short : exported (reachingBack 1) (memory 0) 0 zeros (replicate 252 0) .answer .refusal ≡ 13
+unfolding exported stepIn frameTold step
+exported-short = ap (λ (p : Step). frameTold 0 p .refusal) (passed (noStep 1) refl ∙ comes-to (reachingBack 1) 0)
+
+pub exported-slots : (c : ExportedSlots) × (c .answer ≡ 1)
+unfolding slotsStep pick verdictOf toldOr numbersFrom rowsAfter
+exported-slots = (
+  record {
+    lifetimes = ([], ([], ([], ([], tt))));
+    args = (lend [], (lend [], (lend [], (lend [], tt))));
+    answer = 1;
+    exit = (lend [], (lend [], (lend [], (lend [], tt))));
+    promised = record { answer = refl; numbers-are = refl; rows-are = refl };
+  },
+  refl,
+)
+
+pub exported-reorder : (c : ExportedReorder) × (c .answer ≡ 1)
+unfolding reorderStep pick verdictOf toldOr
+exported-reorder = (
+  record {
+    lifetimes = ([], ([], tt));
+    args = (lend [], (0, (lend [], tt)));
+    answer = 1;
+    exit = (lend [], (0, (lend [], tt)));
+    promised = record { answer = refl; numbers-are = refl };
+  },
+  refl,
+)

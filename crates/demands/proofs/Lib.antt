@@ -4,6 +4,7 @@ pub mod Calls
 pub mod Made
 pub mod Stored
 pub mod Demand1
+pub mod Exported
 pub mod Demand2
 pub mod Demand3
 pub mod OnlyValid

@@ -22,3 +22,5 @@ pub mod Refusals
 pub mod Text
 pub mod Card
 pub mod Fields
+pub mod Lines
+pub mod FrontEnd

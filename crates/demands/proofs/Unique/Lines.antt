@@ -1,0 +1,23 @@
+-- What no two readers may disagree on, for every public function of `lines`: one answer and one state of the lent bytes.
+use denote.Ref.{now}
+use Rattle.demands.proofs.Call.{alike, OneState}
+use Rattle.lines.proofs.put_frame.Reads as put-frame
+use Rattle.lines.proofs.put_frame.Kinds as put-frame-kinds
+use Rattle.lines.proofs.put_refused.Reads as put-refused
+use Rattle.lines.proofs.put_refused.Kinds as put-refused-kinds
+use Rattle.lines.proofs.put_end.Reads as put-end
+use Rattle.lines.proofs.put_end.Kinds as put-end-kinds
+use Rattle.lines.proofs.put_slot.Reads as put-slot
+use Rattle.lines.proofs.put_slot.Kinds as put-slot-kinds
+
+pub put-frame-unique : OneState put-frame-kinds.ps put-frame-kinds.r put-frame.Post (λ κs s. now (s .0))
+put-frame-unique κs a x y s t p q = (alike (p .next) (q .next), alike (p .bytes) (q .bytes))
+
+pub put-refused-unique : OneState put-refused-kinds.ps put-refused-kinds.r put-refused.Post (λ κs s. now (s .0))
+put-refused-unique κs a x y s t p q = (alike (p .next) (q .next), alike (p .bytes) (q .bytes))
+
+pub put-end-unique : OneState put-end-kinds.ps put-end-kinds.r put-end.Post (λ κs s. now (s .0))
+put-end-unique κs a x y s t p q = (alike (p .next) (q .next), alike (p .bytes) (q .bytes))
+
+pub put-slot-unique : OneState put-slot-kinds.ps put-slot-kinds.r put-slot.Post (λ κs s. now (s .0))
+put-slot-unique κs a x y s t p q = (alike (p .next) (q .next), alike (p .bytes) (q .bytes))
