@@ -1,7 +1,7 @@
 /* The front end of an MP3 Layer III reader, from the bytes on a card to the whole numbers of each slot, for C and C++.
 
-   Link with libfront_end.a, which `rt staticlib front_end` makes (x86-64). It needs no other library, allocates nothing, keeps nothing
-   between calls, and every call returns for every input.
+   Link with libfront_end.a, which `rt staticlib front_end` makes (x86-64). It needs memcpy and memset and nothing else, allocates
+   nothing, keeps nothing between calls, and every call returns for every input.
 
    A slot is one granule of one channel. The slots of a frame go granule by granule, channel by channel: MPEG-1 has 4 (mono 2), MPEG-2
    and MPEG-2.5 have 2 (mono 1).

@@ -1,0 +1,203 @@
+//! The front end of an MP3 Layer III reader: from the bytes on a card to the whole numbers of each slot, with a refusal for everything
+//! that cannot be read. A safe wrapper around the proved library: nothing unsafe is left to the caller, and memory that is too small is
+//! refused by name.
+//!
+//! ```no_run
+//! let card = std::fs::read("card.mp3").unwrap();
+//! let mut numbers = [0; front_end::NUMBERS];
+//! let mut reservoir = front_end::Reservoir::new();
+//! let mut at = 0;
+//! while at < card.len() {
+//!     let frame = reservoir.frame(&card[at..], &mut numbers).unwrap();
+//!     for (n, slot) in frame.slots.iter().enumerate() {
+//!         if let front_end::Slot::Read(read) = slot {
+//!             println!("{:?}", &numbers[576 * n..576 * n + read.count]);
+//!         }
+//!     }
+//!     at += frame.length;
+//! }
+//! ```
+mod calls;
+mod refusal;
+#[cfg(test)]
+mod tests;
+
+pub use refusal::Refusal;
+
+/// Bytes of a reservoir.
+pub const RESERVOIR: usize = 4096;
+/// Slots of a frame, at most.
+pub const SLOTS: usize = 4;
+/// Numbers of a slot.
+pub const SLOT: usize = 576;
+/// Numbers to lend for a frame.
+pub const NUMBERS: usize = SLOTS * SLOT;
+/// Bytes of the longest frame: so many, if the card has them, are always enough.
+pub const FRAME: usize = 1441;
+
+const ROW: usize = 63;
+const ROWS: usize = SLOTS * ROW;
+const LACKING: u16 = 255;
+
+/// A slot that was read: one granule of one channel.
+#[derive(Clone, Debug, PartialEq)]
+pub struct ReadSlot {
+    /// Numbers up to the last that was coded; those after it, up to 576, are 0.
+    pub count: usize,
+    /// Scale factors of a long block.
+    pub long: [u16; 22],
+    /// Of a short block: for each band, three windows.
+    pub short: [[u16; 3]; 13],
+}
+
+/// What became of a slot.
+#[derive(Clone, Debug, PartialEq)]
+pub enum Slot {
+    Read(ReadSlot),
+    /// Its 576 numbers have not changed.
+    Refused(Refusal),
+    /// The frame has no such slot (mono, MPEG-2 or MPEG-2.5).
+    Lacking,
+}
+
+/// A frame that was read.
+#[derive(Clone, Debug, PartialEq)]
+pub struct Frame {
+    /// Bytes of the frame: the next one starts so far on.
+    pub length: usize,
+    /// Granule by granule, channel by channel; the n-th slot's numbers are the 576 from 576 n on.
+    pub slots: [Slot; SLOTS],
+}
+
+/// A frame that was refused. Nothing that was lent has changed; only where it reached too far back (`Refusal::ShortReservoir`) its main
+/// data was added to the reservoir, and its length is known.
+#[derive(Clone, Copy, Debug, PartialEq)]
+pub struct RefusedFrame {
+    pub refusal: Refusal,
+    pub length: Option<usize>,
+}
+
+/// What a header says of its frame, in bytes, granules, channels, samples a second and bits a second.
+#[derive(Clone, Copy, Debug, PartialEq)]
+pub struct Sizes {
+    pub length: usize,
+    pub header: usize,
+    pub side: usize,
+    pub main: usize,
+    pub granules: usize,
+    pub channels: usize,
+    pub rate: u32,
+    pub bitrate: u32,
+}
+
+/// The bit reservoir: what the frames so far left for the next ones.
+#[derive(Clone)]
+pub struct Reservoir {
+    bytes: [u8; RESERVOIR],
+    length: usize,
+}
+
+impl Default for Reservoir {
+    fn default() -> Self {
+        Reservoir::new()
+    }
+}
+
+impl Reservoir {
+    /// An empty one, for the start of a card.
+    pub fn new() -> Reservoir {
+        Reservoir {
+            bytes: [0; RESERVOIR],
+            length: calls::emptied(),
+        }
+    }
+
+    /// For a gap on the card: no byte before it is meant any more.
+    pub fn empty(&mut self) {
+        self.length = calls::emptied();
+    }
+
+    /// How many bytes are in it.
+    pub fn length(&self) -> usize {
+        self.length
+    }
+
+    /// One frame, which starts at the first of the bytes; those beyond it are ignored. `numbers` are at least `NUMBERS`, else the call
+    /// is refused by `Refusal::UnfitMemory`.
+    pub fn frame(&mut self, bytes: &[u8], numbers: &mut [i32]) -> Result<Frame, RefusedFrame> {
+        let mut rows = [0; ROWS];
+        let told = calls::frame(bytes, &mut self.bytes, self.length, numbers, &mut rows);
+        self.length = told.reservoir;
+        match Refusal::of(told.refusal) {
+            None => Ok(Frame {
+                length: told.length,
+                slots: slots_of(&rows),
+            }),
+            Some(refusal) => Err(RefusedFrame {
+                refusal,
+                length: if told.length == 0 { None } else { Some(told.length) },
+            }),
+        }
+    }
+}
+
+/// The slots of a frame from given main data of any length: what can still be read where the card has lost some. Of the frame only
+/// the header and the side information are read. `numbers` as for a frame.
+pub fn slots(frame: &[u8], main: &[u8], numbers: &mut [i32]) -> Result<[Slot; SLOTS], Refusal> {
+    let mut rows = [0; ROWS];
+    match Refusal::of(calls::slots(frame, main, numbers, &mut rows)) {
+        None => Ok(slots_of(&rows)),
+        Some(refusal) => Err(refusal),
+    }
+}
+
+/// The reorder of one slot's numbers, at least `SLOT` of them, by the frame's own record of the slot: those of a short block stand
+/// frequency by frequency after it; any other slot's stay. A slot that the frame lacks is refused by `Refusal::MadeUpRecord`.
+pub fn reorder(frame: &[u8], slot: usize, numbers: &mut [i32]) -> Result<(), Refusal> {
+    match Refusal::of(calls::reorder(frame, slot, numbers)) {
+        None => Ok(()),
+        Some(refusal) => Err(refusal),
+    }
+}
+
+/// What follows from a frame's header: 4 bytes are enough, 6 where it has a CRC.
+pub fn sizes(frame: &[u8]) -> Result<Sizes, Refusal> {
+    let s = calls::sizes(frame);
+    match Refusal::of(s.refusal) {
+        None => Ok(Sizes {
+            length: s.length,
+            header: s.header,
+            side: s.side,
+            main: s.main,
+            granules: s.granules,
+            channels: s.channels,
+            rate: s.rate,
+            bitrate: s.bitrate,
+        }),
+        Some(refusal) => Err(refusal),
+    }
+}
+
+fn slots_of(rows: &[u16; ROWS]) -> [Slot; SLOTS] {
+    [slot_of(rows, 0), slot_of(rows, 1), slot_of(rows, 2), slot_of(rows, 3)]
+}
+
+fn slot_of(rows: &[u16; ROWS], n: usize) -> Slot {
+    let row = &rows[ROW * n..ROW * (n + 1)];
+    if row[0] == LACKING {
+        return Slot::Lacking;
+    }
+    if let Some(refusal) = Refusal::of(row[0] as u8) {
+        return Slot::Refused(refusal);
+    }
+    let mut read = ReadSlot {
+        count: row[1] as usize,
+        long: [0; 22],
+        short: [[0; 3]; 13],
+    };
+    read.long.copy_from_slice(&row[2..24]);
+    for (band, windows) in read.short.iter_mut().enumerate() {
+        windows.copy_from_slice(&row[24 + 3 * band..27 + 3 * band]);
+    }
+    Slot::Read(read)
+}

@@ -1,0 +1,114 @@
+//! The calls of ../../vectors.txt, which C's test makes too: each line is made again from what was answered, and must be the same.
+use crate::*;
+
+fn bytes_of(word: &str) -> Vec<u8> {
+    let digits = word.trim_start_matches('-');
+    (0..digits.len() / 2)
+        .map(|i| u8::from_str_radix(&digits[2 * i..2 * i + 2], 16).unwrap())
+        .collect()
+}
+
+fn joined<T: ToString>(values: impl IntoIterator<Item = T>) -> String {
+    values.into_iter().map(|v| format!(" {}", v.to_string())).collect()
+}
+
+/// What is printed of the first slot.
+fn first_slot(slots: &[Slot; SLOTS], numbers: &[i32]) -> String {
+    match &slots[0] {
+        Slot::Read(read) => format!(" 0 {}{}", read.count, joined(&numbers[..read.count])),
+        Slot::Refused(refusal) => format!(" {} 0", refusal.number()),
+        Slot::Lacking => panic!("no first slot"),
+    }
+}
+
+fn frame_call(words: &[&str], reservoir: &mut Reservoir) -> String {
+    let mut numbers = [7; NUMBERS];
+    match reservoir.frame(&bytes_of(words[1]), &mut numbers) {
+        Ok(frame) => format!(" 0 {} {}{}", frame.length, reservoir.length(), first_slot(&frame.slots, &numbers)),
+        Err(why) => {
+            assert!(numbers.iter().all(|&n| n == 7));
+            format!(" {} {} {}", why.refusal.number(), why.length.unwrap_or(0), reservoir.length())
+        }
+    }
+}
+
+fn slots_call(words: &[&str]) -> String {
+    let mut numbers = [7; NUMBERS];
+    match slots(&bytes_of(words[1]), &bytes_of(words[2]), &mut numbers) {
+        Ok(told) => format!(" 0{}", first_slot(&told, &numbers)),
+        Err(refusal) => format!(" {}", refusal.number()),
+    }
+}
+
+fn reorder_call(words: &[&str]) -> String {
+    let own: Vec<i32> = words[4..].iter().map(|w| w.parse().unwrap()).collect();
+    let mut numbers = [7; SLOT];
+    numbers[..own.len()].copy_from_slice(&own);
+    let answer = reorder(&bytes_of(words[1]), words[2].parse().unwrap(), &mut numbers);
+    format!(" {}{}", answer.map_or_else(Refusal::number, |()| 0), joined(&numbers[..own.len()]))
+}
+
+fn sizes_call(words: &[&str]) -> String {
+    match sizes(&bytes_of(words[1])) {
+        Ok(s) => joined(vec![0, s.length, s.header, s.side, s.main, s.granules, s.channels, s.rate as usize, s.bitrate as usize]),
+        Err(refusal) => format!(" {}{}", refusal.number(), " 0".repeat(8)),
+    }
+}
+
+/// Memory of these sizes, which the safe calls could not lend.
+fn lent_call(words: &[&str]) -> String {
+    let size: Vec<usize> = words[1..5].iter().map(|w| w.parse().unwrap()).collect();
+    let (mut reservoir, mut numbers, mut rows) = (vec![0x55; size[0]], vec![7; size[2]], vec![0x7777; size[3]]);
+    let told = calls::frame(&bytes_of(words[5]), &mut reservoir, size[1], &mut numbers, &mut rows);
+    let same = reservoir.iter().all(|&b| b == 0x55) && numbers.iter().all(|&n| n == 7) && rows.iter().all(|&n| n == 0x7777);
+    format!(" {} {} {} {}", told.refusal, told.length, told.reservoir, if same { "same" } else { "changed" })
+}
+
+#[test]
+fn vectors() {
+    let lines = || include_str!("../../vectors.txt").lines().filter(|line| !line.starts_with('#'));
+    let mut reservoir = Reservoir::new();
+    let mut made = 0;
+    for line in lines() {
+        let call = line.split(" =").next().unwrap();
+        let words: Vec<&str> = call.split(' ').collect();
+        let answer = match words[0] {
+            "empty" => {
+                reservoir.empty();
+                continue;
+            }
+            "frame" => frame_call(&words, &mut reservoir),
+            "slots" => slots_call(&words),
+            "reorder" => reorder_call(&words),
+            "sizes" => sizes_call(&words),
+            "lent" => lent_call(&words),
+            other => panic!("no call {}", other),
+        };
+        assert_eq!(line, format!("{} ={}", call, answer));
+        made += 1;
+    }
+    assert!(made > 30 && made == lines().filter(|line| line.contains(" =")).count());
+}
+
+#[test]
+fn too_small_is_said() {
+    let f = bytes_of("fff314c00000400748000800017a00000000000000000000");
+    let mut reservoir = Reservoir::new();
+    let refused = reservoir.frame(&f, &mut [7; NUMBERS - 1]).unwrap_err();
+    assert_eq!((refused.refusal, refused.length), (Refusal::UnfitMemory, None));
+    assert_eq!(slots(&f, &f[13..], &mut [7; NUMBERS - 1]), Err(Refusal::UnfitMemory));
+    assert_eq!(reorder(&f, 0, &mut [7; SLOT - 1]), Err(Refusal::UnfitMemory));
+    assert_eq!(Refusal::UnfitMemory.to_string(), "unfit memory");
+}
+
+#[test]
+fn factors_are_told() {
+    // F with scalefac_compress 16 and length 8: five factors of one bit each, from 7A.
+    let f = bytes_of("fff314c00000400748200800017a00000000000000000000");
+    let frame = Reservoir::new().frame(&f, &mut [0; NUMBERS]).unwrap();
+    match &frame.slots[0] {
+        Slot::Read(read) => assert_eq!(read.long.iter().filter(|&&n| n > 0).count(), 4),
+        other => panic!("{:?}", other),
+    }
+    assert_eq!(frame.slots[1], Slot::Lacking);
+}
