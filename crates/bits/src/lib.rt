@@ -44,3 +44,12 @@ pub fn field(s: &[u8], at: usize, n: usize) -> u16
     let word = byte(s, i) * 65536 + byte(s, i + 1) * 256 + byte(s, i + 2);
     ((word >> (24 - at % 8 - m)) % (1u32 << m)) as u16
 }
+
+// The seven bits from a place on as a number; bits past the end are 0. They lie within two bytes.
+pub fn seven(s: &[u8], at: usize) -> usize
+    ensures { λ r. ⌜ r ≡ fieldAt (now (s .entry)) at 7 ⌝ }
+{
+    let i = at / 8;
+    let word = byte(s, i) * 256 + byte(s, i + 1);
+    ((word >> (9 - at % 8)) % 128) as usize
+}

@@ -1,2 +1,4 @@
 pub mod Walking
+pub mod Bitwise
+pub mod Rows
 pub mod Shown

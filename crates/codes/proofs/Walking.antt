@@ -5,19 +5,19 @@ use mathlib.Core.List.{List, [], _∷_}
 use Prim.Native.Nat.{ℕ, suc, _+_, _-_, _%_, _<_, _≤_}
 use native.Mathlib.Nat.{zero-add}
 use native.Mathlib.Omega.{arith}
-use borrow.Author.Tests.{leb-false}
+use borrow.Author.Tests.{leb-true, leb-false}
 use lib.Dec.{leb}
 use lib.ListN.{length, getD, take, length-take, List·getD-eq-default}
 use lib.Seq.{getD-take}
 use Rattle.standard.specs.Told.{pick}
 use Rattle.standard.specs.ToldLaws.{picked, passed, never}
-use Rattle.standard.specs.Bits.{bitAt, window}
-use Rattle.standard.specs.BitsLaws.{window-nil, window-cons}
+use Rattle.standard.specs.Bits.{bitAt, window, field, fieldAt}
+use Rattle.standard.specs.BitsLaws.{window-nil, window-cons, window-drop, window-length, field-bits}
 use Rattle.standard.specs.CodesLaws.{more}
 use Rattle.standard.specs.RowsLaws.{getD-within}
 use Rattle.standard.specs.declared.Codeword.{Codeword}
 use Rattle.standard.specs.declared.Codeword.the-variants.{Coded, Cut, Alien}
-use Rattle.codes.specs.Walk.{isLeaf, child, walk, start, lookedUp}
+use Rattle.codes.specs.Walk.{isLeaf, child, walk, start, first, taken, used, stepped, lookedUp}
 
 -- ---- a table's link
 pub start-past : (t : List ℕ) (table : ℕ) → 34 ≤ table → start t table ≡ 32768
@@ -33,17 +33,17 @@ unfolding start
 start-within t table h k = getD-take 34 t table 32768 h ∙ getD-within t table 32768 0 k
 
 -- ---- the walk
--- u bits were used before
-unfoldable pub used : ℕ → Codeword → Codeword
-used u (Coded v n) = Coded v (u + n)
-used u Cut = Cut
-used u Alien = Alien
-
-used-none : (c : Codeword) → used 0 c ≡ c
+pub used-none : (c : Codeword) → used 0 c ≡ c
 unfolding used
 used-none (Coded v n) = ap (Coded v) (zero-add n)
 used-none Cut = refl
 used-none Alien = refl
+
+pub used-suc : (u : ℕ) (c : Codeword) → used (suc u) c ≡ more (used u c)
+unfolding used more
+used-suc u (Coded v n) = let p : suc u + n ≡ suc (u + n) = omega arith in ap (Coded v) p
+used-suc u Cut = refl
+used-suc u Alien = refl
 
 used-more : (u : ℕ) (c : Codeword) → used u (more c) ≡ used (u + 1) c
 unfolding used more
@@ -69,11 +69,7 @@ ends t link e h = flip (isLeaf t link) (sym e ∙ h)
 -- a link that leads on has both of its links in the table
 pub room : (t : List ℕ) (link : ℕ) → isLeaf t link ≡ false → link + 1 < length t
 unfolding isLeaf
-room t link h = leb-false (length t) (link + 1) (second (leb 32768 link) h)
-  where
-    second : {y : Bool} (x : Bool) → x || y ≡ false → y ≡ false
-    second true k = never (sym k)
-    second false k = k
+room t link h = leb-false (length t) (link + 1) h
 
 pub leaf-walk : (t : List ℕ) (link : ℕ) (b : List Bool) → isLeaf t link ≡ true → walk t link b ≡ Coded (link % 256) 0
 unfolding walk
@@ -84,18 +80,41 @@ pub record Walking (answer : Codeword) (t : List ℕ) (s : List ℕ) (at end pla
   pub from : at ≤ place
   pub same : answer ≡ used (place - at) (walk t link (window s place end))
 
-pub walking-begin : (t : List ℕ) (table : ℕ) (s : List ℕ) (at end link : ℕ) → link ≡ start t table
-    → Walking (lookedUp t table (window s at end)) t s at end at link
-unfolding lookedUp
-walking-begin t table s at end link e =
-    let z : at - at ≡ 0 = omega arith in
-    record {
-      from = omega arith;
-      same =
-          sym
-          (ap (λ (n : ℕ). used n (walk t link (window s at end))) z ∙ used-none (walk t link (window s at end))
-          ∙ ap (λ (l : ℕ). walk t l (window s at end)) e);
-    }
+module _ (t : List ℕ) (table : ℕ) (s : List ℕ) (at end : ℕ) where
+  -- too few bits for a first step
+  pub walking-begin : (place link : ℕ) → leb 7 (end - at) ≡ false → place ≡ at → link ≡ start t table
+      → Walking (lookedUp t table (window s at end)) t s at end place link
+  unfolding lookedUp
+  walking-begin place link h p e =
+      let z : place - at ≡ 0 = omega arith in
+      let b = window s at end in
+      record {
+        from = omega arith;
+        same =
+            passed (stepped t (first t (start t table) (field b 0 7)) b) (ap (leb 7) (window-length s at end) ∙ h)
+            ∙ sym
+            (ap (λ (n : ℕ). used n (walk t link (window s place end))) z ∙ used-none (walk t link (window s place end))
+            ∙ (λ j. walk t (e j) (window s (p j) end)));
+      }
+
+  -- after a first step
+  pub walking-step : (place link i : ℕ) → leb 7 (end - at) ≡ true → i ≡ fieldAt s at 7 → link ≡ first t (start t table) i → place ≡ at + taken link
+      → Walking (lookedUp t table (window s at end)) t s at end place link
+  unfolding lookedUp stepped window
+  walking-step place link i h g e p =
+      let n : place - at ≡ taken link = omega arith in
+      let b = window s at end in
+      let z : at + 0 ≡ at = omega arith in
+      let k : field b 0 7 ≡ fieldAt s at 7 = field-bits s at (end - at) 0 7 (leb-true 7 (end - at) h) ∙ ap (λ (m : ℕ). fieldAt s m 7) z in
+      let l : first t (start t table) (field b 0 7) ≡ link = ap (first t (start t table)) (k ∙ sym g) ∙ sym e in
+      record {
+        from = omega arith;
+        same =
+            picked (walk t (start t table) b) (ap (leb 7) (window-length s at end) ∙ h)
+            ∙ ap (λ (m : ℕ). stepped t m b) l
+            ∙ ap (λ (w : List Bool). used (taken link) (walk t link w)) (window-drop (taken link) s at end)
+            ∙ (λ j. used (sym n j) (walk t link (window s (sym p j) end)));
+      }
 
 module _ (answer : Codeword) (t : List ℕ) (s : List ℕ) (at end place link : ℕ) (w : Walking answer t s at end place link) where
   pub walking-cut : isLeaf t link ≡ false → end ≤ place → Cut ≡ answer

@@ -2,12 +2,15 @@
 pub mod trees;
 
 use bits::bit;
+use bits::seven;
 use standard::Codeword;
 ghost use mathlib.Core.Path.{_≡_};
 ghost use mathlib.Core.Bool.{not};
-ghost use Rattle.standard.specs.Bits.{window};
+ghost use Prim.Native.Nat.{_-_, _<_};
+ghost use lib.Dec.{leb};
+ghost use Rattle.standard.specs.Bits.{«one», window};
 ghost use Rattle.standard.specs.Codes.{escapeWidth};
-ghost use Rattle.codes.specs.Walk.{isLeaf, «start», lookedUp};
+ghost use Rattle.codes.specs.Walk.{isLeaf, «start», «first», «taken», lookedUp};
 
 const ESCAPES: [u8; 32] = [
     0,
@@ -71,29 +74,68 @@ fn start(trees: &[u16], table: usize) -> u16
 fn leads_on(trees: &[u16], link: u16) -> bool
     ensures { λ r. ⌜ r ≡ not (isLeaf (now (trees .entry)) link) ⌝ }
 {
-    if link >= 0x8000 {
-        return false;
-    }
     let n = link as usize;
     n + 1 < trees.len()
 }
 
-// The next codeword of a table, from the bit place `at` on and not past `end`.
+// Whether there are bits for a first step.
+fn enough(at: usize, end: usize) -> bool
+    ensures { λ r. ⌜ r ≡ leb 7 (end - at) ⌝ }
+{
+    if at < end {
+        return 7 <= end - at;
+    }
+    false
+}
+
+// The entry for seven bits, in the row behind a tree's first two links.
+fn first(trees: &[u16], link: u16, i: usize) -> u16
+    requires { ⌜ i < 128 ⌝ }
+    ensures { λ r. ⌜ r ≡ «first» (now (trees .entry)) link i ⌝ }
+{
+    let n = link as usize + 2 + i;
+    if n < trees.len() {
+        return trees[n];
+    }
+    0x8000
+}
+
+// How many of the seven bits an entry takes.
+fn taken(entry: u16) -> usize
+    ensures { λ r. ⌜ r ≡ «taken» entry ⌝ }
+{
+    if entry < 0x8000 {
+        return 7;
+    }
+    (entry / 256 % 8) as usize
+}
+
+fn one(x: bool) -> usize
+    ensures { λ r. ⌜ r ≡ «one» x ⌝ }
+{
+    if x {
+        return 1;
+    }
+    0
+}
+
+// The next codeword of a table, from the bit place `at` on and not past `end`: seven bits in one step where there are so many,
+// then bit by bit.
 pub fn lookup(trees: &[u16], table: usize, s: &[u8], at: usize, end: usize) -> Codeword
     ensures { λ r. ⌜ r ≡ lookedUp (now (trees .entry)) table (window (now (s .entry)) at end) ⌝ }
 {
     let mut link = start(trees, table);
     let mut place = at;
+    if enough(at, end) {
+        link = first(trees, link, seven(s, at));
+        place = at + taken(link);
+    }
     while leads_on(trees, link) {
         if end <= place {
             return Codeword::Cut;
         }
         let n = link as usize;
-        if bit(s, place) {
-            link = trees[n + 1];
-        } else {
-            link = trees[n];
-        }
+        link = trees[n + one(bit(s, place))];
         place += 1;
     }
     Codeword::Coded {

@@ -42,6 +42,8 @@ use Rattle.bits.proofs.bit.Reads as bit
 use Rattle.bits.proofs.bit.Kinds as bit-kinds
 use Rattle.bits.proofs.field.Reads as field
 use Rattle.bits.proofs.field.Kinds as field-kinds
+use Rattle.bits.proofs.seven.Reads as seven
+use Rattle.bits.proofs.seven.Kinds as seven-kinds
 use Rattle.tables.proofs.bands.long_start.Reads as long-start
 use Rattle.tables.proofs.bands.long_start.Kinds as long-start-kinds
 use Rattle.tables.proofs.bands.short_start.Reads as short-start
@@ -191,6 +193,10 @@ bit-is c = c .promised
 -- 11172-3, 2.4.1 (uimsbf); no field of a frame has more than 16 bits
 pub field-is : (c : Call field-kinds.ps field-kinds.r field.Post) → c .answer ≡ fieldAt (now (c .args .0)) (c .args .1 .0) (min (c .args .1 .1 .0) 16)
 field-is c = c .promised
+
+-- the same, of seven bits: as many as a lookup takes in its first step
+pub seven-is : (c : Call seven-kinds.ps seven-kinds.r seven.Post) → c .answer ≡ fieldAt (now (c .args .0)) (c .args .1 .0) 7
+seven-is c = c .promised
 
 -- ---- tables
 -- 11172-3, Table B.8; 13818-3, Table B.2

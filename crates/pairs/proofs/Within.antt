@@ -24,8 +24,8 @@ module _ (s : List ℕ) (at e : ℕ) where
   pub number-within : (t v : ℕ) (x : Number) → v ≤ largest → x ≡ numberIn (escapeWidth t) v (window s at e) → NumberFits (e - at) x
   number-within t v x h = fits-window NumberFits (numberIn (escapeWidth t) v) (λ b. number-fits (escapeWidth t) v b (escape-le t) h) s at e x
 
-  pub two-within : (t x y : ℕ) (p : Pair) → x ≤ largest → y ≤ largest → p ≡ twoOf (escapeWidth t) x y (window s at e) → PairFits (e - at) p
-  two-within t x y p h k = fits-window PairFits (twoOf (escapeWidth t) x y) (λ b. two-fits (escapeWidth t) x y b (escape-le t) h k) s at e p
+  pub two-within : (w x y : ℕ) (p : Pair) → w ≤ 13 → x ≤ largest → y ≤ largest → p ≡ twoOf w x y (window s at e) → PairFits (e - at) p
+  two-within w x y p g h k = fits-window PairFits (twoOf w x y) (λ b. two-fits w x y b g h k) s at e p
 
   pub word-within : (trees : List ℕ) (t : ℕ) (w : Codeword) → w ≡ lookedUp trees t (window s at e) → WordFits (e - at) w
   word-within trees t w = fits-window WordFits (lookedUp trees t) (looked-up-fits trees t) s at e w

@@ -2,6 +2,7 @@
 mod signed;
 
 use codes::lookup;
+use signed::plain;
 use signed::two;
 use standard::Codeword;
 use standard::Pair;
@@ -12,9 +13,6 @@ ghost use Prim.Native.Nat.{_+_, _-_, _/_, _%_, _<_, _^_};
 ghost use Rattle.standard.specs.Bits.{window};
 ghost use Rattle.standard.specs.Numbers.{twoOf, pairOf, quadFirst, quadOf};
 ghost use Rattle.codes.specs.Walk.{lookedUp};
-
-// A table that has no escapes, as those of quads have none.
-const PLAIN: usize = 0;
 
 pub fn pair(trees: &[u16], table: usize, s: &[u8], at: usize, end: usize) -> Pair
     ensures { λ r. ⌜ r ≡ pairOf (lookedUp (now (trees .entry))) table (window (now (s .entry)) at end) ⌝ }
@@ -45,12 +43,12 @@ fn signs(s: &[u8], at: usize, end: usize, value: u8, used: usize) -> Quad
         x: v,
         y: w,
         used: m,
-    } = two(s, at, end, PLAIN, value / 8 % 2, value / 4 % 2)
+    } = plain(s, at, end, value / 8 % 2, value / 4 % 2)
     else {
         return Quad::Dropped;
     };
     let b = at + m;
-    let Pair::Two { x, y, used: n } = two(s, b, end, PLAIN, value / 2 % 2, value % 2) else {
+    let Pair::Two { x, y, used: n } = plain(s, b, end, value / 2 % 2, value % 2) else {
         return Quad::Dropped;
     };
     Quad::Four {

@@ -85,8 +85,8 @@ fn number(s: &[u8], at: usize, end: usize, table: usize, value: u8) -> Number
     }
 }
 
-// Two values of a table's codeword, the first with its escape and sign before the second's.
-pub(crate) fn two(s: &[u8], at: usize, end: usize, table: usize, x: u8, y: u8) -> Pair
+// Two values of which one may have an escape, the first with its escape and sign before the second's.
+fn escaped(s: &[u8], at: usize, end: usize, table: usize, x: u8, y: u8) -> Pair
     ensures { λ r. ⌜ r ≡ twoOf (escapeWidth table) x y (window (now (s .entry)) at end) ⌝ }
 {
     let Number::Whole { value: p, used: m } = number(s, at, end, table, x) else {
@@ -101,4 +101,33 @@ pub(crate) fn two(s: &[u8], at: usize, end: usize, table: usize, x: u8, y: u8) -
         y: q,
         used: m + n,
     }
+}
+
+// Two values that have no escape: most pairs, and all of a quad. Apart from `escaped`, since this is what a frame's time goes to.
+pub(crate) fn plain(s: &[u8], at: usize, end: usize, x: u8, y: u8) -> Pair
+    requires { ⌜ (x < 15) × (y < 15) ⌝ }
+    ensures { λ r. ⌜ r ≡ twoOf 0 x y (window (now (s .entry)) at end) ⌝ }
+{
+    let Number::Whole { value: v, used: m } = with_sign(s, at, end, x as u32) else {
+        return Pair::NoPair(Refusal::PairOverrun);
+    };
+    let b = at + m;
+    let Number::Whole { value: w, used: n } = with_sign(s, b, end, y as u32) else {
+        return Pair::NoPair(Refusal::PairOverrun);
+    };
+    Pair::Two {
+        x: v,
+        y: w,
+        used: m + n,
+    }
+}
+
+// Two values of a table's codeword.
+pub(crate) fn two(s: &[u8], at: usize, end: usize, table: usize, x: u8, y: u8) -> Pair
+    ensures { λ r. ⌜ r ≡ twoOf (escapeWidth table) x y (window (now (s .entry)) at end) ⌝ }
+{
+    if (15 <= x) | (15 <= y) {
+        return escaped(s, at, end, table, x, y);
+    }
+    plain(s, at, end, x, y)
 }

@@ -3,6 +3,7 @@
 use mathlib.Core.Path.{sym, _∙_}
 use native.Mathlib.Omega.{arith}
 use Rattle.standard.specs.BitsLaws.{window-drop}
+use Rattle.standard.specs.NumbersLaws.{escape-le}
 use Rattle.standard.specs.Numbers.{pairAfter, pairWord, pairOf}
 use Rattle.pairs.proofs.Within.{word-within, two-within}
 use borrow.Author.Needs.{needs}
@@ -31,7 +32,7 @@ enum-known-x c = search needs
 add-t19 : tie.Need-add-t19
 add-t19 c =
     let m = word-within _ _ _ _ _ _ (sym (c .before .before .before .before .before .value .given .1) ∙ c .before .before .before .before .before .before .before .lookup .ensures) in
-    omega (arith, m, two-within _ _ _ _ _ _ _ (omega arith) (omega arith) (sym (c .before .x .given .1) ∙ c .before .before .before .two .ensures), c .before .before .before .before .before .before .before .before .before .before .fits .end)
+    omega (arith, m, two-within _ _ _ _ _ _ _ (escape-le _) (omega arith) (omega arith) (sym (c .before .x .given .1) ∙ c .before .before .before .two .ensures), c .before .before .before .before .before .before .before .before .before .before .fits .end)
 
 enum-known-why : tie.Need-enum-known-why
 enum-known-why c = search needs

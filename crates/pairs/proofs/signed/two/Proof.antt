@@ -1,67 +1,29 @@
--- `pairs::signed::two` meets its contract: one number is read, then the other from the place after it. Each lies within the bits, so the
--- places do not wrap. Assumes nothing.
+-- `pairs::signed::two` meets its contract: where neither value is 15, no escape's width matters. Assumes nothing.
 use mathlib.Core.Path.{sym, _∙_}
-use native.Mathlib.Omega.{arith}
-use Rattle.standard.specs.BitsLaws.{window-drop}
-use Rattle.standard.specs.Numbers.{twoLast, twoFirst, twoOf}
-use Rattle.pairs.proofs.Within.{number-within}
 use borrow.Author.Needs.{needs}
+use borrow.Author.Tests.{leb-false}
+use Rattle.standard.specs.ToldLaws.{neither-of}
+use Rattle.pairs.proofs.Plain.{plain-two}
 use Rattle.pairs.proofs.signed.two.Statement.{statement}
 use Rattle.pairs.proofs.signed.two.Tie as tie
 use Rattle.pairs.proofs.signed.two.Reads as reads
 use Rattle.pairs.proofs.signed.two.Lts as lts
-use Rattle.pairs.proofs.signed.number.Reads as number-reads
+use Rattle.pairs.proofs.signed.escaped.Reads as escaped-reads
+use Rattle.pairs.proofs.signed.plain.Reads as plain-reads
 
-number-requires : tie.Need-number-requires
-number-requires c κs = search needs
-
-enum-known-p : tie.Need-enum-known-p
-enum-known-p c = search needs
-
-enum-told : tie.Need-enum-told
-enum-told c = search needs
+escaped-requires : tie.Need-escaped-requires
+escaped-requires c κs = search needs
 
 returns : tie.Need-returns
-unfolding twoOf twoFirst
-returns c = rw (sym (c .before .before .number .ensures) ∙ c .enum-told .given .1)
+returns c = search needs
 
-add-b : tie.Need-add-b
-add-b c = omega (arith, number-within _ _ _ _ _ _ (omega arith) (sym (c .before .p .given .1) ∙ c .before .before .before .number .ensures), c .before .before .before .before .before .fits .end)
-
-number-requires-2 : tie.Need-number-requires-2
-number-requires-2 c κs = search needs
-
-enum-known-q : tie.Need-enum-known-q
-enum-known-q c = search needs
-
-enum-told-2 : tie.Need-enum-told-2
-enum-told-2 c = search needs
+plain-requires : tie.Need-plain-requires
+plain-requires c κs = let p = neither-of _ _ (c .if1 .left) in (leb-false _ _ (p .0), leb-false _ _ (p .1))
 
 returns-2 : tie.Need-returns-2
-unfolding twoOf twoFirst twoLast
-returns-2 c = rw (sym (c .before .before .before .before .before .before .number .ensures) ∙ c .before .before .before .before .p .given .1, window-drop, sym (c .before .before .number2 .ensures) ∙ c .enum-told2 .given .1)
-
-add-t16 : tie.Need-add-t16
-add-t16 c =
-    let m = number-within _ _ _ _ _ _ (omega arith) (sym (c .before .before .before .before .before .p .given .1) ∙ c .before .before .before .before .before .before .before .number .ensures) in
-    omega (arith, m, number-within _ _ _ _ _ _ (omega arith) (sym (c .before .q .given .1) ∙ c .before .before .before .number2 .ensures), c .before .before .before .before .before .before .before .before .before .fits .end)
-
-returns-3 : tie.Need-returns-3
-unfolding twoOf twoFirst twoLast
-returns-3 c = rw (sym (c .before .before .before .before .before .before .before .number .ensures) ∙ c .before .before .before .before .before .p .given .1, window-drop, sym (c .before .before .before .number2 .ensures) ∙ c .before .q .given .1) (search needs)
+returns-2 c =
+    let p = neither-of _ _ (c .before .if1 .left) in
+    c .plain .ensures ∙ sym (plain-two _ _ _ _ (leb-false _ _ (p .0)) (leb-false _ _ (p .1)))
 
 pub two-spec : {M : Type 1} → statement M
-two-spec =
-    tie.close
-    (tie.spec
-    number-requires
-    enum-known-p
-    enum-told
-    returns
-    add-b
-    number-requires-2
-    enum-known-q
-    enum-told-2
-    returns-2
-    add-t16
-    returns-3)
+two-spec = tie.close (tie.spec escaped-requires returns plain-requires returns-2)
