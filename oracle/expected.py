@@ -183,6 +183,8 @@ def whole(f, told):
     for k in sorted(told):
         mine, words = f.alone[k], f.alone[k].first.split(' ')
         length, start = f.records[k][0], told[k]['start']
+        if late and told[k]['refused'] == 24:
+            continue
         if told[k]['refused'] == 20 or words[0] == 'factors' or words[2] == 'panic':
             need(f.failure, 'the Rust read a slot that is lacking or damaged')
             past = told[k]['refused'] == 20 or start + int(words[1]) > bits

@@ -7,6 +7,30 @@ RATES = {1: (44100, 48000, 32000), 2: (22050, 24000, 16000), 25: (11025, 12000, 
 VERSION = {1: 3, 2: 2, 25: 0}
 F = bytes.fromhex('FFF314C0 000040074800080001 7A') + bytes(10)
 
+# The smallest inputs of docs/DIFFERENCES.md: the number of the entry, the bytes, and how many zeros follow.
+SMALLEST = (
+    (1, 'FFFB14C0 000200540000A000000007800014000000 FFFFFF', 72),
+    (2, 'FFF31400 00001C03A4000400008018074800080001 7AC0', 1),
+    (3, 'FFF314C0 000010074800080001 7A', 10),
+    (3, 'FFF314C0 0000100B4800080001 7A', 10),
+    (4, 'FFE318C0 0007EBEB4801810801' + 31 * 'FF' + '90', 27),
+    (5, 'FFF314C0 000040074800080001', 0),
+    (6, 'FFF314C0 0000C00F4800080001', 11),
+    (7, 'FFF314C0 010040074800080001', 0),
+    (8, 'FFF314C0 0002C8074800080001 7A', 10),
+    (8, 'FFF314C0 000020074820080001 7A', 10),
+    (8, 'FFF314C0 000040074800080 1F9 7A', 10),
+    (8, 'FFF314C0 0002C0034800080001 F0', 10),
+    (8, 'FFF31400 00006003A58F0400008000034B1E080001 7A', 2),
+    (9, 'FFFB14C0 0002000404000080', 84),
+    (12, 'FFF314C0 000040074801A10001 7A', 10),
+    (13, 'FFF314C0 010040074800080001 7A', 10),
+)
+
+
+def smallest():
+    return [bytes.fromhex(text.replace(' ', '')) + bytes(zeros) for _, text, zeros in SMALLEST]
+
 
 def read(path):
     with open(path, 'rb') as f:
@@ -208,6 +232,7 @@ def damaged(all_streams, seed, count):
 def all_inputs(folder):
     """Name, whether the programs go on after a refusal, and the cards."""
     s = streams(folder)
+    yield 'smallest', False, smallest()
     for name, card in s.items():
         yield name, True, [card]
     yield 'headers', False, headers()

@@ -251,24 +251,19 @@ fn put_slots(out: &mut [u8], at: usize, a: FrameAnswer, numbers: &[i32]) -> usiz
 }
 
 // A frame's first line: where it was tried, and its length and the reservoir's, or the number by which it is refused.
-fn put_first(out: &mut [u8], at: usize, place: u64, a: FrameAnswer) -> usize {
-    let verdict = a.verdict;
-    let kept = a.reservoir;
+fn put_first(
+    out: &mut [u8],
+    at: usize,
+    place: u64,
+    verdict: Verdict,
+    length: u64,
+    kept: u64,
+) -> usize {
     match verdict {
-        Verdict::Accepted => put_row(
-            out,
-            at,
-            b"frame",
-            &[place, a.length as u64, kept.length as u64],
-        ),
+        Verdict::Accepted => put_row(out, at, b"frame", &[place, length, kept]),
         Verdict::Refused(why) => {
             if is_told(verdict) {
-                return put_row(
-                    out,
-                    at,
-                    b"reach",
-                    &[place, a.length as u64, kept.length as u64],
-                );
+                return put_row(out, at, b"reach", &[place, length, kept]);
             }
             put_row(out, at, b"refused", &[place, number_of(why) as u64])
         }
@@ -282,8 +277,16 @@ pub(crate) fn put_answer(
     a: FrameAnswer,
     numbers: &[i32],
 ) -> usize {
-    let first = put_first(&mut *out, at, place, a);
     let verdict = a.verdict;
+    let kept = a.reservoir;
+    let first = put_first(
+        &mut *out,
+        at,
+        place,
+        verdict,
+        a.length as u64,
+        kept.length as u64,
+    );
     if is_told(verdict) {
         let h = a.header;
         let i = a.info;

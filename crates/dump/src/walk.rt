@@ -25,16 +25,23 @@ const FULL: usize = 32768;
 
 const NO_END: usize = 0xffff_ffff_ffff_ffff;
 
+// The largest prime below 2 ^ 32.
+const PRIME: u64 = 4_294_967_291;
+
 // More turns than any input takes: nothing says that an input ends, so the turns are counted.
 const TURNS: u64 = 0xffff_ffff_ffff_ffff;
 
+// What the program was told, and what it reads from. With `sums` the text is not written but summed up.
 pub(crate) struct Words {
-    on: bool,
-    many: bool,
+    pub(crate) on: bool,
+    pub(crate) many: bool,
+    pub(crate) sums: bool,
+    pub(crate) input: i32,
 }
 
 // Where the walk is: the window over the input and whether more may come; the bytes that the present card still has, and whether
-// they are passed over; the place in it; the reservoir; the end of the text that is not written out yet; and the next card's number.
+// they are passed over; the place in it; the reservoir; the end of the text that is not written out yet, and the sum of the text
+// before it; the next card's number; and how many tries there were.
 pub(crate) struct Walk {
     card: Card,
     open: bool,
@@ -43,7 +50,9 @@ pub(crate) struct Walk {
     place: u64,
     reservoir: Reservoir,
     at: usize,
+    pub(crate) sum: u64,
     number: u64,
+    pub(crate) tries: u64,
     done: bool,
 }
 
@@ -67,7 +76,7 @@ fn same(a: &[u8], b: &[u8]) -> bool {
     true
 }
 
-fn is_word(i: usize, word: &[u8]) -> bool {
+pub(crate) fn is_word(i: usize, word: &[u8]) -> bool {
     let mut said = io::buffer();
     let n = os::arg(i, &mut said);
     same(&said[..n], word)
@@ -77,6 +86,8 @@ pub(crate) fn read_words() -> Words {
     Words {
         on: is_word(1, b"on") | is_word(2, b"on"),
         many: is_word(1, b"cards") | is_word(2, b"cards"),
+        sums: false,
+        input: STDIN_FILENO,
     }
 }
 
@@ -89,18 +100,35 @@ fn start() -> Walk {
         place: 0,
         reservoir: emptied(),
         at: 0,
+        sum: 0,
         number: 0,
+        tries: 0,
         done: false,
     }
 }
 
-// All of the text written out.
-pub(crate) fn flushed(out: &[u8], w: Walk) -> Walk {
+// A text's sum, a number of 32 bits, from the sum of what stood before it.
+fn summed(before: u64, text: &[u8]) -> u64 {
+    let mut sum = before;
+    let mut i = 0usize;
+    while i < text.len() {
+        sum = (sum % PRIME * 65_599 + wide(text[i]) as u64 + 1) % PRIME;
+        i += 1;
+    }
+    sum
+}
+
+// All of the text written out, or summed up.
+pub(crate) fn flushed(out: &[u8], w: Walk, said: Words) -> Walk {
     let from = 0usize;
     let end = least(w.at, out.len());
-    io::write_all(STDOUT_FILENO, &out[from..end]);
     let mut next = w;
     next.at = 0;
+    if said.sums {
+        next.sum = summed(w.sum, &out[from..end]);
+        return next;
+    }
+    io::write_all(STDOUT_FILENO, &out[from..end]);
     next
 }
 
@@ -122,15 +150,15 @@ fn is_open(input: Input) -> bool {
 }
 
 // The window filled up, where too little is ahead.
-fn filled(window: &mut [u8], w: Walk) -> Walk {
+fn filled(window: &mut [u8], w: Walk, input: i32) -> Walk {
     let c = w.card;
     if (unread(window, c).len() < AHEAD) & w.open {
-        let f = fill(STDIN_FILENO, window, c);
-        let input = f.input;
+        let f = fill(input, window, c);
+        let state = f.input;
         let filled_card = f.card;
         let mut next = w;
         next.card = filled_card;
-        next.open = is_open(input);
+        next.open = is_open(state);
         return next;
     }
     w
@@ -146,7 +174,9 @@ fn opened(out: &mut [u8], w: Walk, card: Card, left: usize) -> Walk {
         place: 0,
         reservoir: emptied(),
         at: put_card(out, w.at, w.number),
+        sum: w.sum,
         number: std::num::wrapping_add_u64(w.number, 1),
+        tries: w.tries,
         done: false,
     }
 }
@@ -231,6 +261,7 @@ fn attempt(
     next.at = put_answer(out, w.at, w.place, a, numbers);
     next.reservoir = reservoir;
     next.skip = !(is_accepted(verdict) | said.on);
+    next.tries = std::num::wrapping_add_u64(w.tries, 1);
     next
 }
 
@@ -243,7 +274,7 @@ fn turn(
     w: Walk,
     said: Words,
 ) -> Walk {
-    let a = filled(&mut *window, w);
+    let a = filled(&mut *window, w, said.input);
     if a.left == 0 {
         return begin(out, window, a, said);
     }
@@ -251,7 +282,7 @@ fn turn(
         return skipped(window, a);
     }
     if FULL < a.at {
-        return flushed(out, a);
+        return flushed(out, a, said);
     }
     attempt(out, window, bytes, numbers, a, said)
 }
