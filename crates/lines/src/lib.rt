@@ -55,7 +55,8 @@ fn put_start(out: &mut [u8], at: usize, granule: u64, channel: u64) -> usize
     put(out, d, b" ")
 }
 
-fn put_numbers(out: &mut [u8], at: usize, numbers: &[i32]) -> usize
+// Numbers, each after a blank.
+pub fn put_numbers(out: &mut [u8], at: usize, numbers: &[i32]) -> usize
     ensures { λ r. ⌜ Put (now (out .entry)) at (numbersText (now (numbers .entry))) r (now (out .exit)) ⌝ }
 {
     let mut next = at;
@@ -69,7 +70,7 @@ fn put_numbers(out: &mut [u8], at: usize, numbers: &[i32]) -> usize
 }
 
 // The numbers from a place on, at most n of them.
-fn part(numbers: &[i32], from: usize, n: usize) -> &[i32]
+pub fn part(numbers: &[i32], from: usize, n: usize) -> &[i32]
     ensures { λ r. ⌜ now r ≡ take n (drop from (now (numbers .entry))) ⌝ }
 {
     if numbers.len() <= from {
