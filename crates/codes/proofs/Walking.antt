@@ -1,6 +1,6 @@
 -- Where a lookup stands after some bits: what is left of the walk, with the bits already used, is the whole answer.
 use mathlib.Core.Path.{_≡_, refl, sym, ap, _∙_}
-use mathlib.Core.Bool.{Bool, true, false, not, _||_}
+use mathlib.Core.Bool.{Bool, true, false, not}
 use mathlib.Core.List.{List, [], _∷_}
 use Prim.Native.Nat.{ℕ, suc, _+_, _-_, _%_, _<_, _≤_}
 use native.Mathlib.Nat.{zero-add}
@@ -9,7 +9,6 @@ use borrow.Author.Tests.{leb-true, leb-false}
 use lib.Dec.{leb}
 use lib.ListN.{length, getD, take, length-take, List·getD-eq-default}
 use lib.Seq.{getD-take}
-use Rattle.standard.specs.Told.{pick}
 use Rattle.standard.specs.ToldLaws.{picked, passed, never}
 use Rattle.standard.specs.Bits.{bitAt, window, field, fieldAt}
 use Rattle.standard.specs.BitsLaws.{window-nil, window-cons, window-drop, window-length, field-bits}

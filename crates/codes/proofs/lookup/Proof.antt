@@ -1,6 +1,6 @@
 -- `codes::lookup` meets its contract. The loop's invariant: what is left of the walk, with the bits used, is the whole answer.
 -- The measure is what is left of the bits. Assumes nothing.
-use mathlib.Core.Path.{_≡_, sym, ap, _∙_}
+use mathlib.Core.Path.{sym, ap, _∙_}
 use mathlib.Core.Logic.{⊎-elim}
 use Prim.Native.Nat.{ℕ, _-_, _+_, _≤_}
 use native.Mathlib.Omega.{arith}
@@ -105,7 +105,7 @@ cast-t19 : tie.Need-cast-t19 Inv-loop μ-loop
 cast-t19 c = search needs
 
 sub-t20 : tie.Need-sub-t20 Inv-loop μ-loop
-sub-t20 c = c .before .before .before .before .loop .inv .from
+sub-t20 c = omega (arith, c .before .before .before .before .loop .inv .from)
 
 returns-2 : tie.Need-returns-2 Inv-loop μ-loop
 returns-2 c = walking-end _ _ _ _ _ _ _ (c .before .before .before .before .loop .inv) (ends _ _ (c .before .before .before .leads-on .ensures) (c .before .before .if2 .left))
