@@ -1,18 +1,18 @@
 -- Rows written piece by piece, and what the exported calls answer at each of their returns.
 use mathlib.Core.Path.{_≡_, refl, sym, ap, _∙_, subst}
-use mathlib.Core.Bool.{Bool, true, false, _||_}
-use mathlib.Core.List.{List, [], _∷_, _++_, map, append-assoc}
-use Prim.Native.Nat.{ℕ, zero, suc, _+_, _-_, _*_, _≤_, _<_}
+use mathlib.Core.Bool.{true, false, _||_}
+use mathlib.Core.List.{List, [], _∷_, map}
+use Prim.Native.Nat.{ℕ, suc, _+_, _*_, _≤_, _<_}
 use native.Mathlib.Omega.{arith}
 use borrow.Author.Tests.{lt-ltb, le-ltb}
 use lib.Dec.{ltb}
 use lib.IntN.{ℤ}
-use lib.ListN.{length, getD, take, drop, set, length-set, length-append}
-use lib.Seq.{paste, paste-zero, paste-suc, length-paste, take-paste, drop-paste, take-add, take-all, take-append-le, drop-drop, drop-cons, drop-at, take-at, length-take-le}
-use Rattle.standard.specs.Told.{Told, refused, told, pick, verdictOf, toldOr}
+use lib.ListN.{length, getD, take, drop, set, length-set, length-append, length-map, drop-of-length-le, List·getD-map}
+use lib.Seq.{paste, length-paste, take-append-le, drop-cons, drop-at}
+use Rattle.standard.specs.Told.{Told, refused, told, verdictOf, toldOr}
 use Rattle.standard.specs.ToldLaws.{picked, passed}
 use Rattle.standard.specs.Refusals.{numberOf, refuse, toldVerdict, toldSlot, SlotTold, Answers}
-use Rattle.standard.specs.CopyLaws.{copying-begin, copying-turn}
+use Rattle.standard.specs.CopyLaws.{copying-begin, copying-turn, paste-next}
 use Rattle.standard.specs.declared.SlotAnswer.{SlotAnswer}
 use Rattle.standard.specs.declared.FrameHeader.{FrameHeader}
 use Rattle.standard.specs.declared.SideInfo.{SideInfo}
@@ -32,21 +32,6 @@ use Rattle.main_data.proofs.Turns.{four-at-most}
 use Rattle.front_end.specs.Calls.{numberTold, saidNumber, saidCount, slotRow, rowsFrom, rowsAfter, following, under, reorderBy, reorderStep, ReorderDone, slotsStep, SlotsDone, frameStep, frameTold, FrameDone}
 
 -- ---- rows
--- a second piece of src pasted where the first one ends
-pub paste-next : {A : Type 0} (src old next : List A) (at a m : ℕ) → at + a ≤ length old → a ≤ length src → take m next ≡ take m (drop a src)
-    → paste (paste old at src a) (at + a) next m ≡ paste old at src (a + m)
-paste-next {A = A} src old next at a m h l e =
-    (λ j. (take-paste old at src a (omega arith) l j ++ e j) ++ beyond j)
-    ∙ ap (λ (x : List A). x ++ drop (at + (a + m)) old) (append-assoc (take at old) (take a src) (take m (drop a src)) ∙ ap (λ (x : List A). take at old ++ x) (sym (take-add a m src)))
-  where
-    beyond : drop (at + a + m) (paste old at src a) ≡ drop (at + (a + m)) old
-    beyond =
-        let s : at + a + m ≡ at + (a + m) = omega arith in
-        sym (drop-drop m (at + a) (paste old at src a))
-        ∙ ap (drop m) (drop-paste old at src a (omega arith) l)
-        ∙ drop-drop m (at + a) old
-        ∙ ap (λ (n : ℕ). drop n old) s
-
 -- a row written in its four pieces
 module _ (d : List ℕ) (at : ℕ) (t : SlotTold) (long : length (t .long) ≡ 22) (short : length (t .short) ≡ 39) (room : at + 63 ≤ length d) where
   row-length : length (slotRow t) ≡ 63
@@ -89,11 +74,6 @@ module _ (d : List ℕ) (at x y : ℕ) (long : List ℕ) (l : length long ≡ 22
       ap length f ∙ length-paste left (at + 24) short (length short) (omega (arith, s, kept, room)) (omega arith) ∙ kept
 
 -- slots in turn
-drop-map : {A B : Type 0} (f : A → B) (l : List A) (k : ℕ) (z : A) → k < length l → drop k (map f l) ≡ f (getD l k z) ∷ drop (suc k) (map f l)
-drop-map f [] k z h = let w : ⊥ = omega (arith, h) in absurd w
-drop-map f (x ∷ l) zero z h = refl
-drop-map f (x ∷ l) (suc k) z h = drop-map f l k z (omega (arith, h))
-
 -- the k-th row is written, and those after it remain
 pub rows-turn : (slots : List SlotAnswer) (d e : List ℕ) (k : ℕ) (z : SlotAnswer) → length slots ≡ 4 → k < 4
     → rowsFrom (63 * k) (drop k (map toldSlot slots)) d ≡ e
@@ -103,17 +83,18 @@ rows-turn slots d e k z l h w =
     let a : 63 * (k + 1) ≡ 63 * k + 63 = omega arith in
     let b : k + 1 ≡ suc k = omega arith in
     (λ j. rowsFrom (a j) (drop (b j) (map toldSlot slots)) (paste d (63 * k) (slotRow (toldSlot (getD slots k z))) 63))
-    ∙ sym (ap (λ (x : List SlotTold). rowsFrom (63 * k) x d) (drop-map toldSlot slots k z (omega (arith, l, h)))) ∙ w
-
-nothing-left : {A B : Type 0} (f : A → B) (l : List A) (k : ℕ) → length l ≤ k → drop k (map f l) ≡ []
-nothing-left f [] zero h = refl
-nothing-left f [] (suc k) h = refl
-nothing-left f (x ∷ l) zero h = let w : ⊥ = omega (arith, h) in absurd w
-nothing-left f (x ∷ l) (suc k) h = nothing-left f l k (omega (arith, h))
+    ∙ sym (ap (λ (x : List SlotTold). rowsFrom (63 * k) x d) next) ∙ w
+  where
+    next : drop k (map toldSlot slots) ≡ toldSlot (getD slots k z) ∷ drop (suc k) (map toldSlot slots)
+    next =
+        let n = length-map slots toldSlot in
+        drop-cons (map toldSlot slots) k (toldSlot z) (omega (arith, n, l, h)) ∙ ap (λ (t : SlotTold). t ∷ drop (suc k) (map toldSlot slots)) (List·getD-map toldSlot slots k z)
 
 pub rows-end : (slots : List SlotAnswer) (d e : List ℕ) (k : ℕ) → length slots ≡ 4 → 4 ≤ k → rowsFrom (63 * k) (drop k (map toldSlot slots)) d ≡ e → d ≡ e
 unfolding rowsFrom
-rows-end slots d e k l h w = sym (ap (λ (x : List SlotTold). rowsFrom (63 * k) x d) (nothing-left toldSlot slots k (omega (arith, l, h)))) ∙ w
+rows-end slots d e k l h w =
+    let n = length-map slots toldSlot in
+    sym (ap (λ (x : List SlotTold). rowsFrom (63 * k) x d) (drop-of-length-le (map toldSlot slots) {i = k} (omega (arith, n, l, h)))) ∙ w
 
 -- ---- a frame's header and side information, read before the rest
 -- at most four slots, by the sizes at hand

@@ -1,7 +1,7 @@
 -- What the exported calls answer, in numbers: 0 where a call is accepted, else document 01's number of the refusal; and what they leave in
 -- lent memory. What is right is `standard`'s: here it is only laid out.
 use mathlib.Core.Path.{_≡_}
-use mathlib.Core.Bool.{Bool, _||_}
+use mathlib.Core.Bool.{_||_}
 use mathlib.Core.List.{List, [], _∷_, _++_}
 use Prim.Native.Nat.{ℕ, _+_, _*_}
 use lib.Dec.{ltb}
@@ -19,8 +19,6 @@ use Rattle.standard.specs.Reorder.{reorderOf}
 use Rattle.main_data.specs.Slot.{pastRecord}
 use Rattle.standard.specs.declared.FrameHeader.{FrameHeader}
 use Rattle.standard.specs.declared.SideInfo.{SideInfo}
-use Rattle.standard.specs.declared.SlotRecord.{SlotRecord}
-use Rattle.standard.specs.declared.Reservoir.{Reservoir}
 use Rattle.standard.specs.declared.Refusal.the-variants.{UnfitMemory, MadeUpRecord}
 use Rattle.front_end.specs.declared.Sizes.{Sizes}
 use Rattle.front_end.specs.declared.FrameTold.{FrameTold}

@@ -1,12 +1,12 @@
 -- A loop that copies elements one by one, at any element type: what it has done so far is a paste of so many, and what lies beyond is as it was.
 use mathlib.Core.Path.{_≡_, refl, sym, ap, _∙_}
-use mathlib.Core.List.{List, [], _∷_, _++_, append-nil}
+use mathlib.Core.List.{List, [], _∷_, _++_, append-assoc, append-nil}
 use Prim.Native.Nat.{ℕ, zero, suc, _+_, _≤_, _<_}
 use native.Mathlib.Nat.{zero-add, suc-add}
 use native.Mathlib.Numerals.{add-one}
 use native.Mathlib.Omega.{arith}
 use lib.ListN.{length, getD, take, drop, set, length-set, length-drop, drop-of-length-le}
-use lib.Seq.{paste, paste-zero, paste-suc, drop-paste, getD-drop, take-nil, take-add, take-at, drop-drop, length-take-le}
+use lib.Seq.{paste, paste-zero, paste-suc, take-paste, drop-paste, getD-drop, take-nil, take-add, drop-drop}
 
 -- j elements of src stand in dst from a place on, where old stood
 pub record Copying {A : Type 0} (src old dst : List A) (at j : ℕ) : Type 0 where
@@ -51,22 +51,24 @@ take-drop (suc n) m [] = rw (take-nil, take-nil)
 take-drop (suc n) m (x ∷ l) = rw suc-add (take-drop n m l)
 
 -- a second piece of src pasted where the first one ends
+pub paste-next : {A : Type 0} (src old next : List A) (at a m : ℕ) → at + a ≤ length old → a ≤ length src → take m next ≡ take m (drop a src)
+    → paste (paste old at src a) (at + a) next m ≡ paste old at src (a + m)
+paste-next {A = A} src old next at a m h l e =
+    (λ j. (take-paste old at src a (omega arith) l j ++ e j) ++ beyond j)
+    ∙ ap (λ (x : List A). x ++ drop (at + (a + m)) old) (append-assoc (take at old) (take a src) (take m (drop a src)) ∙ ap (λ (x : List A). take at old ++ x) (sym (take-add a m src)))
+  where
+    beyond : drop (at + a + m) (paste old at src a) ≡ drop (at + (a + m)) old
+    beyond =
+        let s : at + a + m ≡ at + (a + m) = omega arith in
+        sym (drop-drop m (at + a) (paste old at src a))
+        ∙ ap (drop m) (drop-paste old at src a (omega arith) l)
+        ∙ drop-drop m (at + a) old
+        ∙ ap (λ (n : ℕ). drop n old) s
+
+-- from the front on
 pub paste-on : {A : Type 0} (src old next : List A) (a m : ℕ) → a + m ≤ length old → a ≤ length src → take m next ≡ take m (drop a src)
     → paste (paste old 0 src a) a next m ≡ paste old 0 src (a + m)
-paste-on {A = A} src old next a m h l e =
-    (λ j. (front j ++ e j) ++ beyond j)
-    ∙ ap (λ (x : List A). x ++ drop (a + m) old) (sym (take-add a m src))
-    ∙ ap (λ (n : ℕ). take (a + m) src ++ drop n old) (sym (zero-add (a + m)))
-  where
-    front : take a (paste old 0 src a) ≡ take a src
-    front = take-at (take a src) (drop (0 + a) old) a (length-take-le a src l)
-
-    beyond : drop (a + m) (paste old 0 src a) ≡ drop (a + m) old
-    beyond =
-        let z : 0 + a ≡ a = zero-add a in
-        sym (drop-drop m a (paste old 0 src a))
-        ∙ ap (drop m) (ap (λ (n : ℕ). drop n (paste old 0 src a)) (sym z) ∙ drop-paste old 0 src a (omega arith) l ∙ ap (λ (n : ℕ). drop n old) z)
-        ∙ drop-drop m a old
+paste-on src old next a m h l e = ap (λ (n : ℕ). paste (paste old 0 src a) n next m) (sym (zero-add a)) ∙ paste-next src old next 0 a m (omega arith) l e
 
 -- all of a list of n replaced
 pub paste-whole : {A : Type 0} (src old : List A) (n : ℕ) → length old ≡ n → paste old 0 src n ≡ take n src

@@ -1,5 +1,5 @@
 -- `front_end_frame` meets its contract: the frame is the frame step's, and its answer is laid out. Assumes nothing.
-use mathlib.Core.Path.{_≡_, refl}
+use mathlib.Core.Path.{refl}
 use Rattle.front_end.proofs.Laws.{frame-few, frame-done, room-few, room-fits}
 use borrow.Author.Needs.{needs}
 use Rattle.front_end.proofs.front_end_frame.Statement.{statement}

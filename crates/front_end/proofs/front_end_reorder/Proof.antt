@@ -1,5 +1,5 @@
 -- `front_end_reorder` meets its contract: its tests are the definition's. Assumes nothing.
-use mathlib.Core.Path.{_≡_, refl, sym, ap, _∙_}
+use mathlib.Core.Path.{refl, sym, ap, _∙_}
 use denote.Ref.{now}
 use Rattle.standard.specs.declared.Refusal.the-variants.{UnfitMemory}
 use Rattle.standard.specs.Refusals.{toldHeader}

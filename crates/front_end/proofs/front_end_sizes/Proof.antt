@@ -1,5 +1,5 @@
 -- `front_end_sizes` meets its contract: the header is the definition's, and so is what follows from it. Assumes nothing.
-use mathlib.Core.Path.{_≡_, sym, ap, _∙_}
+use mathlib.Core.Path.{sym, ap, _∙_}
 use Rattle.standard.specs.Refusals.{toldHeader}
 use Rattle.front_end.specs.Calls.{sizesTold}
 use borrow.Author.Needs.{needs}

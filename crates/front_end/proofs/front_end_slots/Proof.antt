@@ -1,7 +1,6 @@
 -- `front_end_slots` meets its contract: its tests are the definition's. Assumes nothing.
-use mathlib.Core.Path.{_≡_, refl, sym, ap, _∙_}
+use mathlib.Core.Path.{refl, sym, ap, _∙_}
 use denote.Ref.{now}
-use lib.ListN.{length}
 use borrow.Author.Tests.{ltb-false}
 use Rattle.standard.specs.ToldLaws.{neither-of}
 use Rattle.standard.specs.Refusals.{toldHeader}

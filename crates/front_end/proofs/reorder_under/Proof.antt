@@ -1,5 +1,5 @@
 -- `reorder_under` meets its contract: its tests are the definition's. Assumes nothing.
-use mathlib.Core.Path.{_≡_, refl, sym, ap, _∙_, subst}
+use mathlib.Core.Path.{refl, _∙_, subst}
 use Prim.Native.Nat.{ℕ, _*_, _≤_, _<_}
 use Rattle.standard.specs.declared.Refusal.the-variants.{MadeUpRecord}
 use native.Mathlib.Omega.{arith}

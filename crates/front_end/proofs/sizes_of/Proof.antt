@@ -1,5 +1,4 @@
 -- `sizes_of` meets its contract: each field is the size of its name. Assumes nothing.
-use mathlib.Core.Path.{_≡_}
 use Rattle.front_end.specs.Calls.{sizesTold}
 use borrow.Author.Needs.{needs}
 use Rattle.front_end.proofs.sizes_of.Statement.{statement}

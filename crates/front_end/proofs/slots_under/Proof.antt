@@ -1,7 +1,6 @@
 -- `slots_under` meets its contract: the side information is the definition's, and so are the slots. Assumes nothing.
-use mathlib.Core.Path.{_≡_, refl, _∙_}
+use mathlib.Core.Path.{refl, _∙_}
 use denote.Ref.{now}
-use lib.ListN.{length}
 use borrow.Author.Tests.{le-ltb}
 use Rattle.standard.specs.ToldLaws.{neither}
 use Rattle.standard.specs.RefusalsLaws.{answered-told, answered-refused}

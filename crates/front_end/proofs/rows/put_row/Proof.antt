@@ -1,7 +1,7 @@
 -- `put_row` meets its contract: the four pieces are the row. Assumes nothing.
-use mathlib.Core.Path.{_≡_, refl, sym, ap, _∙_}
+use mathlib.Core.Path.{sym, ap, _∙_}
 use native.Mathlib.Omega.{arith}
-use lib.ListN.{length, set, length-set}
+use lib.ListN.{length, length-set}
 use lib.Seq.{paste}
 use mathlib.Core.List.{List}
 use Prim.Native.Nat.{ℕ, _+_}

@@ -1,5 +1,5 @@
 -- `said_of` meets its contract: in each arm the outcome is the arm's. Assumes nothing.
-use mathlib.Core.Path.{_≡_, sym, ap, _∙_}
+use mathlib.Core.Path.{sym, ap, _∙_}
 use Rattle.standard.specs.Refusals.{toldOutcome}
 use Rattle.standard.specs.declared.SlotOutcome.{SlotOutcome}
 use Rattle.front_end.specs.Calls.{saidNumber, saidCount}

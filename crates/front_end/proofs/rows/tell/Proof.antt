@@ -1,5 +1,5 @@
 -- `tell` meets its contract: in each arm the verdict is the arm's. Assumes nothing.
-use mathlib.Core.Path.{_≡_, sym, ap, _∙_}
+use mathlib.Core.Path.{sym, ap, _∙_}
 use mathlib.Core.List.{map}
 use denote.Ref.{now}
 use Rattle.standard.specs.Refusals.{toldVerdict, toldSlot}

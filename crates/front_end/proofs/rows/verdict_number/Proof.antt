@@ -1,5 +1,5 @@
 -- `verdict_number` meets its contract: in each arm the verdict is the arm's. Assumes nothing.
-use mathlib.Core.Path.{_≡_, sym, ap, _∙_}
+use mathlib.Core.Path.{sym, ap, _∙_}
 use Rattle.standard.specs.Refusals.{toldVerdict}
 use Rattle.standard.specs.declared.Verdict.{Verdict}
 use Rattle.front_end.specs.Calls.{numberTold}
