@@ -9,7 +9,7 @@
 use mathlib.Core.Path.{_≡_, refl}
 use mathlib.Core.List.{[], map}
 use Prim.Native.Nat.{min}
-use lib.ListN.{replicate, length}
+use lib.ListN.{replicate, length, take, drop}
 use denote.Ref.{now}
 use Rattle.standard.specs.Bits.{bitAt, fieldAt, window}
 use Rattle.standard.specs.Bands.{longStart, shortStart}
@@ -36,7 +36,7 @@ use Rattle.window.specs.Window.{Put, slidOf}
 use Rattle.text.specs.Text.{decimalOf, signedOf}
 use Rattle.card.specs.Window.{unreadOf, takenOf, Slid}
 use Rattle.fields.specs.Values.{headerValues, sideValues, recordValues, isTold, stepOf}
-use Rattle.lines.specs.Said.{frameLine, refusedLine, endLine, slotLine}
+use Rattle.lines.specs.Said.{frameLine, refusedLine, endLine, slotLine, numbersText}
 use Rattle.front_end.specs.Calls.{FrameDone, frameStep, SlotsDone, slotsStep, ReorderDone, reorderStep, sizesTold}
 use Rattle.bits.proofs.bit.Reads as bit
 use Rattle.bits.proofs.bit.Kinds as bit-kinds
@@ -174,6 +174,10 @@ use Rattle.lines.proofs.put_end.Reads as put-end
 use Rattle.lines.proofs.put_end.Kinds as put-end-kinds
 use Rattle.lines.proofs.put_slot.Reads as put-slot
 use Rattle.lines.proofs.put_slot.Kinds as put-slot-kinds
+use Rattle.lines.proofs.put_numbers.Reads as put-numbers
+use Rattle.lines.proofs.put_numbers.Kinds as put-numbers-kinds
+use Rattle.lines.proofs.part.Reads as part
+use Rattle.lines.proofs.part.Kinds as part-kinds
 use Rattle.front_end.proofs.front_end_frame.Reads as front-end-frame
 use Rattle.front_end.proofs.front_end_frame.Kinds as front-end-frame-kinds
 use Rattle.front_end.proofs.front_end_slots.Reads as front-end-slots
@@ -477,6 +481,14 @@ put-end-is c = c .promised
 -- document 01, "Worked from bytes": the output of `slots`
 pub put-slot-is : (c : Call put-slot-kinds.ps put-slot-kinds.r put-slot.Post) → Put (now (c .args .0)) (c .args .1 .0) (slotLine (c .args .1 .1 .0) (c .args .1 .1 .1 .0) (toldOutcome ((c .args .1 .1 .1 .1 .0) .outcome)) (now (c .args .1 .1 .1 .1 .1 .0))) (c .answer) (now (c .exit .0))
 put-slot-is c = c .promised
+
+-- document 01, "Worked from bytes": the output of `slots`
+pub put-numbers-is : (c : Call put-numbers-kinds.ps put-numbers-kinds.r put-numbers.Post) → Put (now (c .args .0)) (c .args .1 .0) (numbersText (now (c .args .1 .1 .0))) (c .answer) (now (c .exit .0))
+put-numbers-is c = c .promised
+
+-- no clause: a part of the numbers
+pub part-is : (c : Call part-kinds.ps part-kinds.r part.Post) → now (c .answer) ≡ take (c .args .1 .1 .0) (drop (c .args .1 .0) (now (c .args .0)))
+part-is c = c .promised
 
 -- ---- front_end
 -- as process_frame, in numbers

@@ -1,6 +1,6 @@
 -- What no two readers may disagree on, for every public function of `lines`: one answer and one state of the lent bytes.
 use denote.Ref.{now}
-use Rattle.demands.proofs.Call.{alike, OneState}
+use Rattle.demands.proofs.Call.{alike, OneState, OneShown}
 use Rattle.lines.proofs.put_frame.Reads as put-frame
 use Rattle.lines.proofs.put_frame.Kinds as put-frame-kinds
 use Rattle.lines.proofs.put_refused.Reads as put-refused
@@ -9,6 +9,10 @@ use Rattle.lines.proofs.put_end.Reads as put-end
 use Rattle.lines.proofs.put_end.Kinds as put-end-kinds
 use Rattle.lines.proofs.put_slot.Reads as put-slot
 use Rattle.lines.proofs.put_slot.Kinds as put-slot-kinds
+use Rattle.lines.proofs.put_numbers.Reads as put-numbers
+use Rattle.lines.proofs.put_numbers.Kinds as put-numbers-kinds
+use Rattle.lines.proofs.part.Reads as part
+use Rattle.lines.proofs.part.Kinds as part-kinds
 
 pub put-frame-unique : OneState put-frame-kinds.ps put-frame-kinds.r put-frame.Post (λ κs s. now (s .0))
 put-frame-unique κs a x y s t p q = (alike (p .next) (q .next), alike (p .bytes) (q .bytes))
@@ -21,3 +25,9 @@ put-end-unique κs a x y s t p q = (alike (p .next) (q .next), alike (p .bytes) 
 
 pub put-slot-unique : OneState put-slot-kinds.ps put-slot-kinds.r put-slot.Post (λ κs s. now (s .0))
 put-slot-unique κs a x y s t p q = (alike (p .next) (q .next), alike (p .bytes) (q .bytes))
+
+pub put-numbers-unique : OneState put-numbers-kinds.ps put-numbers-kinds.r put-numbers.Post (λ κs s. now (s .0))
+put-numbers-unique κs a x y s t p q = (alike (p .next) (q .next), alike (p .bytes) (q .bytes))
+
+pub part-unique : OneShown part-kinds.ps part-kinds.r part.Post (λ κs x s. now x)
+part-unique κs a x y s t p q = alike p q
