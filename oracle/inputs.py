@@ -89,7 +89,8 @@ def frame(rng, version=1, rate=0, kbps=13, mode=3, extension=0, crc=False, begin
         b.put(*[(shares, 4)] * channels)
     for n in range(channels * (2 if one else 1)):
         r = dict(length=rng.randrange(900), pairs=rng.randrange(60), gain=210, compress=0, switched=0, block=2, mixed=0, gains=(0, 3, 7),
-                 tables=tuple(rng.randrange(32) for _ in range(3)), region0=rng.randrange(8), region1=rng.randrange(8), preflag=0, scale=0, count1=rng.randrange(2))
+                 tables=tuple(rng.randrange(32) for _ in range(3)), region0=rng.randrange(8), region1=rng.randrange(8),
+                 preflag=0, scale=0, count1=rng.randrange(2))
         r.update(fields)
         if n % channels == 1:
             r.update(fields.get('second', {}))
@@ -121,7 +122,8 @@ def headers():
 
 
 def chosen(all_streams):
-    """F, and frames with a short block, under intensity stereo, with a CRC, and of MPEG-1 in stereo, each with the frames before it that it may reach back to."""
+    """F, and frames with a short block, under intensity stereo, with a CRC, and of MPEG-1 in stereo and in mono, each with the two frames before it,
+    which it may reach back to."""
     def pick(name, fits):
         fs = frames(all_streams[name])
         k = next(k for k in range(2, len(fs)) if fits(fs[k]))
@@ -129,12 +131,12 @@ def chosen(all_streams):
     joint = lambda f: f[3] >> 6 == 1 and f[3] >> 4 & 1
     return {
         'F': (b'', F),
-        'short': pick('m25-12000-mono-8.mp3', lambda f: f[2] >> 4 and f[9] & 1 | 1),
+        'short': pick('m25-12000-mono-8.mp3', lambda f: f[9] & 1 and f[10] >> 6 == 2),
         'allshort': pick('m2-24000-allshort.mp3', lambda f: True),
         'intensity': pick('gen-25-8000-008.mp3', joint),
         'crc': pick('gen-2-24000-004.mp3', lambda f: not f[1] & 1),
         'stereo': pick('m1-44100-allshort.mp3', lambda f: True),
-        'joint': pick('m1-44100-mono-32.mp3', lambda f: True),
+        'mono': pick('m1-44100-mono-32.mp3', lambda f: True),
     }
 
 
@@ -174,7 +176,9 @@ def fields():
             for i in range(3):
                 for block in blocks:
                     tables = tuple(table if j == i else rng.randrange(32) for j in range(3))
-                    out += [frame(rng, version, rng.randrange(3), tables=tables, count1=n % 2, length=rng.randrange(2000), pairs=rng.randrange(289), **block) for n in range(6)]
+                    for n in range(6):
+                        length, pairs = rng.randrange(2000), rng.randrange(289)
+                        out.append(frame(rng, version, rng.randrange(3), tables=tables, count1=n % 2, length=length, pairs=pairs, **block))
             out += [frame(rng, version, tables=(table,) * 3, length=n, pairs=2) for n in range(60)]
     out += [frame(rng, version, switched=1, block=b, mixed=1) for version in RATES for b in range(4)]
     return out

@@ -150,19 +150,9 @@ fn put_slot(
     let outcome = s.outcome;
     match outcome {
         SlotOutcome::Lacking => at,
-        SlotOutcome::NotRead(why) => put_row(
-            out,
-            at,
-            b"missed",
-            &[place.granule, place.channel, number_of(why) as u64],
-        ),
+        SlotOutcome::NotRead(why) => put_outcome(out, at, b"missed", place, number_of(why) as u64),
         SlotOutcome::Read { count } => {
-            let next = put_row(
-                &mut *out,
-                at,
-                b"slot",
-                &[place.granule, place.channel, count as u64],
-            );
+            let next = put_outcome(&mut *out, at, b"slot", place, count as u64);
             put_read(out, next, h, r, s, count, numbers)
         }
     }
@@ -185,6 +175,11 @@ fn place_of(h: FrameHeader, n: u8) -> Place {
         granule: (n / 2) as u64,
         channel: (n % 2) as u64,
     }
+}
+
+// A line on the slot at a place.
+fn put_outcome(out: &mut [u8], at: usize, word: &[u8], p: Place, n: u64) -> usize {
+    put_row(out, at, word, &[p.granule, p.channel, n])
 }
 
 fn put_record(out: &mut [u8], at: usize, h: FrameHeader, r: SlotRecord, n: u8) -> usize {
@@ -213,8 +208,7 @@ fn slot_count(h: FrameHeader) -> usize
 }
 
 // The records of the slots that the frame has.
-fn put_records(out: &mut [u8], at: usize, h: FrameHeader, i: SideInfo) -> usize {
-    let slots = i.slots;
+fn put_records(out: &mut [u8], at: usize, h: FrameHeader, slots: [SlotRecord; 4]) -> usize {
     let count = slot_count(h);
     let mut next = at;
     let mut n = 0usize;
@@ -226,11 +220,14 @@ fn put_records(out: &mut [u8], at: usize, h: FrameHeader, i: SideInfo) -> usize 
     next
 }
 
-fn put_slots(out: &mut [u8], at: usize, a: FrameAnswer, numbers: &[i32]) -> usize {
-    let h = a.header;
-    let i = a.info;
-    let records = i.slots;
-    let slots = a.slots;
+fn put_slots(
+    out: &mut [u8],
+    at: usize,
+    h: FrameHeader,
+    records: [SlotRecord; 4],
+    slots: [SlotAnswer; 4],
+    numbers: &[i32],
+) -> usize {
     let mut next = at;
     let mut n = 0usize;
     while n < 4 {
@@ -270,6 +267,14 @@ fn put_first(
     }
 }
 
+// The lines on the header, the side information and the records.
+fn put_told(out: &mut [u8], at: usize, h: FrameHeader, i: SideInfo) -> usize {
+    let next = put_row(&mut *out, at, b"header", &header_values(h));
+    let after = put_row(&mut *out, next, b"side", &side_values(i));
+    let records = i.slots;
+    put_records(out, after, h, records)
+}
+
 pub(crate) fn put_answer(
     out: &mut [u8],
     at: usize,
@@ -279,7 +284,7 @@ pub(crate) fn put_answer(
 ) -> usize {
     let verdict = a.verdict;
     let kept = a.reservoir;
-    let first = put_first(
+    let next = put_first(
         &mut *out,
         at,
         place,
@@ -290,12 +295,12 @@ pub(crate) fn put_answer(
     if is_told(verdict) {
         let h = a.header;
         let i = a.info;
-        let b = put_row(&mut *out, first, b"header", &header_values(h));
-        let c = put_row(&mut *out, b, b"side", &side_values(i));
-        let d = put_records(&mut *out, c, h, i);
-        return put_slots(out, d, a, numbers);
+        let records = i.slots;
+        let slots = a.slots;
+        let after = put_told(&mut *out, next, h, i);
+        return put_slots(out, after, h, records, slots, numbers);
     }
-    first
+    next
 }
 
 pub(crate) fn put_card(out: &mut [u8], at: usize, n: u64) -> usize {

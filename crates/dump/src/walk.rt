@@ -237,6 +237,16 @@ fn is_accepted(v: Verdict) -> bool {
     }
 }
 
+// After a try: the text's end and the reservoir are new, and the walk goes on or passes over the rest of the card.
+fn tried(w: Walk, at: usize, reservoir: Reservoir, further: usize, on: bool) -> Walk {
+    let mut next = gone(w, further);
+    next.at = at;
+    next.reservoir = reservoir;
+    next.skip = !on;
+    next.tries = std::num::wrapping_add_u64(w.tries, 1);
+    next
+}
+
 // One try of the frame step.
 fn attempt(
     out: &mut [u8],
@@ -257,12 +267,9 @@ fn attempt(
     let a = process_frame(&s[from..n], bytes, kept, &mut *numbers);
     let verdict = a.verdict;
     let reservoir = a.reservoir;
-    let mut next = gone(w, step(verdict, a.length));
-    next.at = put_answer(out, w.at, w.place, a, numbers);
-    next.reservoir = reservoir;
-    next.skip = !(is_accepted(verdict) | said.on);
-    next.tries = std::num::wrapping_add_u64(w.tries, 1);
-    next
+    let further = step(verdict, a.length);
+    let at = put_answer(out, w.at, w.place, a, numbers);
+    tried(w, at, reservoir, further, is_accepted(verdict) | said.on)
 }
 
 // The window and the text are seen to; then a card begins, or bytes are passed over, or a frame is tried.

@@ -9,10 +9,10 @@ use Rattle.dump.proofs.rows.put_slots.Statement.{statement}
 use Rattle.dump.proofs.rows.put_slots.Tie as tie
 
 abbrev Inv-loop : tie.InvT-loop
-Inv-loop out₀ at numbers h records slots next₀ n₀ out next n = (n ≤ 4) × (length out ≡ length out₀)
+Inv-loop out₀ at h numbers records slots next₀ n₀ out next n = (n ≤ 4) × (length out ≡ length out₀)
 
 abbrev μ-loop : tie.MeasureT-loop
-μ-loop out₀ at numbers h records slots next₀ n₀ out next n = 4 - n
+μ-loop out₀ at h numbers records slots next₀ n₀ out next n = 4 - n
 
 loop-holds : tie.Need-loop-holds Inv-loop μ-loop
 loop-holds c = search needs
