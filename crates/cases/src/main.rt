@@ -16,31 +16,30 @@ use card::fill;
 use card::taken;
 use card::unread;
 use frame::process_frame;
+use header::read_frame_header;
 use io::write_all;
 use libc::STDIN_FILENO;
 use libc::STDOUT_FILENO;
 use lines::part;
 use lines::put_numbers;
-use lines::put_slot;
-use main_data::answers::lacking_slots;
+use lines::put_slots;
 use main_data::read_slots;
 use refusals::number_of;
 use reorder::reorder;
 use reservoir::emptied;
-use side_info::side::no_side;
+use side_info::read_side_info;
 use sizes::is_two;
 use standard::BitRate;
 use standard::Channels;
 use standard::Emphasis;
 use standard::FrameAnswer;
 use standard::FrameHeader;
+use standard::HeaderAnswer;
 use standard::MpegVersion;
-use standard::Refusal;
 use standard::Reservoir;
 use standard::SampleRate;
 use standard::SideInfo;
 use standard::SlotAnswer;
-use standard::SlotRecord;
 use standard::SlotsAnswer;
 use standard::Verdict;
 use text::put_number;
@@ -48,17 +47,25 @@ use window::put;
 use words::bytes_from;
 use words::line_end;
 use words::number;
-
-// What the next case goes by: the reservoir's record, the last frame's header and side information, and how much memory is lent.
 ghost use mathlib.Core.Path.{_≡_};
 ghost use Prim.Native.Nat.{min};
 
+// What the next case goes by, beside the last frame's bytes: how many these are, the reservoir's stated length, how much memory is
+// lent, and what is made up of the last frame's header (the rate) and side information (the pairs of a slot).
 struct State {
-    reservoir: Reservoir,
-    header: FrameHeader,
-    info: SideInfo,
+    frame: usize,
+    stated: usize,
     bytes: usize,
     numbers: usize,
+    slot: usize,
+    pairs: usize,
+    made_up: MadeUp,
+}
+
+enum MadeUp {
+    Nothing,
+    Rate,
+    Pairs,
 }
 
 fn say(out: &[u8], end: usize) {
@@ -81,21 +88,6 @@ fn put_verdict(out: &mut [u8], at: usize, v: Verdict) -> usize {
     }
 }
 
-fn put_slots(
-    out: &mut [u8],
-    at: usize,
-    h: FrameHeader,
-    slots: [SlotAnswer; 4],
-    numbers: &[i32],
-) -> usize {
-    let channels = h.channels;
-    let two = is_two(channels);
-    let b = put_slot(&mut *out, at, two, 0, slots[0], numbers);
-    let c = put_slot(&mut *out, b, two, 1, slots[1], numbers);
-    let d = put_slot(&mut *out, c, two, 2, slots[2], numbers);
-    put_slot(out, d, two, 3, slots[3], numbers)
-}
-
 // The bytes of a case: those in hex after the first number, then as many zeros as it says.
 fn bytes_of(text: &[u8], bytes: &mut [u8]) -> Card {
     let zeros = number(text, 0);
@@ -113,29 +105,57 @@ fn bytes_of(text: &[u8], bytes: &mut [u8]) -> Card {
     }
 }
 
+// ---- a frame
 // A frame over as much memory as is lent.
 fn call_frame(frame: &[u8], bytes: &mut [u8], numbers: &mut [i32], state: State) -> FrameAnswer {
     let b = least(state.bytes, bytes.len());
     let n = least(state.numbers, numbers.len());
-    let old = state.reservoir;
+    let old = Reservoir {
+        length: state.stated,
+    };
     process_frame(frame, &mut bytes[0..b], old, &mut numbers[0..n])
 }
 
-fn put_frame(out: &mut [u8], a: FrameAnswer) -> usize {
-    let verdict = a.verdict;
-    let reservoir = a.reservoir;
+fn put_frame(out: &mut [u8], verdict: Verdict, length: u64, reservoir: u64) -> usize {
     let c = put(&mut *out, 0, b"frame ");
     let d = put_verdict(&mut *out, c, verdict);
     let e = put(&mut *out, d, b" length ");
-    let f = put_number(&mut *out, e, a.length as u64);
+    let f = put_number(&mut *out, e, length);
     let g = put(&mut *out, f, b" reservoir ");
-    let i = put_number(&mut *out, g, reservoir.length as u64);
+    let i = put_number(&mut *out, g, reservoir);
     put(out, i, b"\n")
+}
+
+fn show_slots(out: &mut [u8], at: usize, h: FrameHeader, slots: [SlotAnswer; 4], numbers: &[i32]) {
+    let channels = h.channels;
+    let end = put_slots(
+        &mut *out,
+        at,
+        is_two(channels),
+        slots[0],
+        slots[1],
+        slots[2],
+        slots[3],
+        numbers,
+    );
+    say(out, end);
+}
+
+// Answers the reservoir's length after it.
+fn show_frame(out: &mut [u8], a: FrameAnswer, numbers: &[i32]) -> usize {
+    let verdict = a.verdict;
+    let reservoir = a.reservoir;
+    let header = a.header;
+    let slots = a.slots;
+    let at = put_frame(&mut *out, verdict, a.length as u64, reservoir.length as u64);
+    show_slots(out, at, header, slots, numbers);
+    reservoir.length
 }
 
 // f
 fn run_frame(
     text: &[u8],
+    last: &mut [u8],
     bytes: &mut [u8],
     numbers: &mut [i32],
     out: &mut [u8],
@@ -143,43 +163,143 @@ fn run_frame(
 ) -> State {
     let mut frame = [0u8; 2048];
     let c = bytes_of(text, &mut frame);
+    let n = put(&mut *last, 0, unread(&frame, c));
     let a = call_frame(unread(&frame, c), &mut *bytes, &mut *numbers, state);
-    let header = a.header;
-    let info = a.info;
-    let slots = a.slots;
-    let reservoir = a.reservoir;
-    let at = put_frame(&mut *out, a);
-    let end = put_slots(&mut *out, at, header, slots, numbers);
-    say(out, end);
+    let stated = show_frame(out, a, numbers);
     State {
-        reservoir,
-        header,
-        info,
+        frame: n,
+        stated,
         bytes: state.bytes,
         numbers: state.numbers,
+        slot: 0,
+        pairs: 0,
+        made_up: MadeUp::Nothing,
     }
 }
 
-fn call_slots(main: &[u8], numbers: &mut [i32], state: State) -> SlotsAnswer {
-    let n = least(state.numbers, numbers.len());
-    let header = state.header;
-    let info = state.info;
-    read_slots(header, info, main, &mut numbers[0..n])
+// ---- calls that take a header and side information
+// What no bytes read to.
+fn no_header() -> FrameHeader {
+    FrameHeader {
+        version: MpegVersion::Mpeg1,
+        crc: false,
+        bitrate: BitRate::Kbps8,
+        rate: SampleRate::Hz8000,
+        padding: false,
+        channels: Channels::Mono,
+        copyright: false,
+        original: false,
+        emphasis: Emphasis::NoEmphasis,
+    }
+}
+
+fn header_in(frame: &[u8]) -> FrameHeader {
+    match read_frame_header(frame) {
+        HeaderAnswer::Header(h) => h,
+        HeaderAnswer::NoHeader(_) => no_header(),
+    }
+}
+
+fn side_in(h: FrameHeader, frame: &[u8]) -> SideInfo {
+    let a = read_side_info(h, frame);
+    let info = a.info;
+    info
+}
+
+fn with_rate(old: FrameHeader, made_up: MadeUp) -> FrameHeader {
+    if let MadeUp::Rate = made_up {
+        let version = old.version;
+        let bitrate = old.bitrate;
+        let channels = old.channels;
+        let emphasis = old.emphasis;
+        return FrameHeader {
+            version,
+            crc: old.crc,
+            bitrate,
+            rate: SampleRate::Hz8000,
+            padding: old.padding,
+            channels,
+            copyright: old.copyright,
+            original: old.original,
+            emphasis,
+        };
+    }
+    old
+}
+
+fn with_pairs(old: SideInfo, slot: usize, pairs: usize, made_up: MadeUp) -> SideInfo {
+    if let MadeUp::Pairs = made_up {
+        let shares = old.shares;
+        let mut slots = old.slots;
+        let mut record = slots[slot % 4];
+        record.pairs = (pairs % 65536) as u16;
+        slots[slot % 4] = record;
+        return SideInfo {
+            begin: old.begin,
+            shares,
+            slots,
+        };
+    }
+    old
+}
+
+fn header_of(last: &[u8], state: State) -> FrameHeader {
+    let made_up = state.made_up;
+    let frame = unread(
+        last,
+        Card {
+            from: 0,
+            end: state.frame,
+        },
+    );
+    with_rate(header_in(frame), made_up)
+}
+
+fn side_of(last: &[u8], state: State) -> SideInfo {
+    let made_up = state.made_up;
+    let frame = unread(
+        last,
+        Card {
+            from: 0,
+            end: state.frame,
+        },
+    );
+    with_pairs(
+        side_in(header_in(frame), frame),
+        state.slot,
+        state.pairs,
+        made_up,
+    )
+}
+
+fn call_slots(
+    main: &[u8],
+    h: FrameHeader,
+    i: SideInfo,
+    numbers: &mut [i32],
+    lent: usize,
+) -> SlotsAnswer {
+    let n = least(lent, numbers.len());
+    read_slots(h, i, main, &mut numbers[0..n])
+}
+
+fn put_answer(out: &mut [u8], what: &[u8], verdict: Verdict, rest: &[u8]) -> usize {
+    let a = put(&mut *out, 0, what);
+    let b = put_verdict(&mut *out, a, verdict);
+    put(out, b, rest)
 }
 
 // s
-fn run_slots(text: &[u8], numbers: &mut [i32], out: &mut [u8], state: State) {
+fn run_slots(text: &[u8], last: &[u8], numbers: &mut [i32], out: &mut [u8], state: State) {
     let mut main = [0u8; 4096];
     let c = bytes_of(text, &mut main);
-    let a = call_slots(unread(&main, c), &mut *numbers, state);
+    let h = header_of(last, state);
+    let i = side_of(last, state);
+    let a = call_slots(unread(&main, c), h, i, &mut *numbers, state.numbers);
     let verdict = a.verdict;
     let slots = a.slots;
-    let header = state.header;
-    let b = put(&mut *out, 0, b"slots ");
-    let d = put_verdict(&mut *out, b, verdict);
-    let e = put(&mut *out, d, b"\n");
-    let end = put_slots(&mut *out, e, header, slots, numbers);
-    say(out, end);
+    let at = put_answer(&mut *out, b"slots ", verdict, b"\n");
+    show_slots(out, at, h, slots, numbers);
 }
 
 fn one_more(i: usize) -> i32 {
@@ -196,59 +316,40 @@ fn count_up(numbers: &mut [i32]) {
 }
 
 // Reorder by the record of a slot, over as many of the numbers as are lent.
-fn call_reorder(slot: usize, lent: usize, numbers: &mut [i32], state: State) -> Verdict {
-    let info = state.info;
+fn call_reorder(
+    slot: usize,
+    lent: usize,
+    h: FrameHeader,
+    info: SideInfo,
+    numbers: &mut [i32],
+) -> Verdict {
     let slots = info.slots;
     let record = slots[slot % 4];
-    let header = state.header;
     count_up(&mut *numbers);
     let n = least(lent, numbers.len());
-    reorder(header, record, &mut numbers[0..n])
+    reorder(h, record, &mut numbers[0..n])
+}
+
+fn show_numbers(out: &mut [u8], at: usize, numbers: &[i32]) {
+    let a = put_numbers(&mut *out, at, numbers);
+    let end = put(&mut *out, a, b"\n");
+    say(out, end);
 }
 
 // o
-fn run_reorder(text: &[u8], out: &mut [u8], state: State) {
+fn run_reorder(text: &[u8], last: &[u8], out: &mut [u8], state: State) {
     let slot = number(text, 0);
     let lent = number(text, slot.next);
     let shown = number(text, lent.next);
     let mut numbers = [0i32; 1024];
-    let verdict = call_reorder(slot.value, lent.value, &mut numbers, state);
-    let a = put(&mut *out, 0, b"reorder ");
-    let b = put_verdict(&mut *out, a, verdict);
-    let c = put(&mut *out, b, b":");
-    let d = put_numbers(&mut *out, c, part(&numbers, 0, shown.value));
-    let end = put(&mut *out, d, b"\n");
-    say(out, end);
+    let h = header_of(last, state);
+    let i = side_of(last, state);
+    let verdict = call_reorder(slot.value, lent.value, h, i, &mut numbers);
+    let at = put_answer(&mut *out, b"reorder ", verdict, b":");
+    show_numbers(out, at, part(&numbers, 0, shown.value));
 }
 
-// m
-fn lent(text: &[u8], state: State) -> State {
-    let b = number(text, 0);
-    let n = number(text, b.next);
-    let reservoir = state.reservoir;
-    let header = state.header;
-    let info = state.info;
-    State {
-        reservoir,
-        header,
-        info,
-        bytes: b.value,
-        numbers: n.value,
-    }
-}
-
-fn with_reservoir(reservoir: Reservoir, state: State) -> State {
-    let header = state.header;
-    let info = state.info;
-    State {
-        reservoir,
-        header,
-        info,
-        bytes: state.bytes,
-        numbers: state.numbers,
-    }
-}
-
+// ---- the rest
 // e
 fn run_emptied(out: &mut [u8], state: State) -> State {
     let r = emptied();
@@ -256,71 +357,63 @@ fn run_emptied(out: &mut [u8], state: State) -> State {
     let b = put_number(&mut *out, a, r.length as u64);
     let end = put(&mut *out, b, b"\n");
     say(out, end);
-    with_reservoir(r, state)
-}
-
-// p
-fn with_pairs(text: &[u8], state: State) -> State {
-    let slot = number(text, 0);
-    let pairs = number(text, slot.next);
-    let reservoir = state.reservoir;
-    let header = state.header;
-    let old = state.info;
-    let shares = old.shares;
-    let mut slots = old.slots;
-    let k = slot.value % 4;
-    let mut record = slots[k];
-    record.pairs = (pairs.value % 65536) as u16;
-    slots[k] = record;
     State {
-        reservoir,
-        header,
-        info: SideInfo {
-            begin: old.begin,
-            shares,
-            slots,
-        },
+        frame: state.frame,
+        stated: r.length,
         bytes: state.bytes,
         numbers: state.numbers,
+        slot: 0,
+        pairs: 0,
+        made_up: MadeUp::Nothing,
     }
 }
 
-// h
-fn with_rate(state: State) -> State {
-    let reservoir = state.reservoir;
-    let info = state.info;
-    let old = state.header;
-    let version = old.version;
-    let bitrate = old.bitrate;
-    let channels = old.channels;
-    let emphasis = old.emphasis;
-    State {
-        reservoir,
-        header: FrameHeader {
-            version,
-            crc: old.crc,
-            bitrate,
-            rate: SampleRate::Hz8000,
-            padding: old.padding,
-            channels,
-            copyright: old.copyright,
-            original: old.original,
-            emphasis,
-        },
-        info,
-        bytes: state.bytes,
-        numbers: state.numbers,
-    }
-}
-
+// #
 fn run_words(text: &[u8], out: &mut [u8]) {
     let a = put(&mut *out, 0, text);
     let end = put(&mut *out, a, b"\n");
     say(out, end);
 }
 
+// m, l, p, h
+fn set_up(text: &[u8], c: u8, state: State) -> State {
+    let mut new = state;
+    let a = number(text, 0);
+    let b = number(text, a.next);
+    if c == b'm' {
+        new.bytes = a.value;
+        new.numbers = b.value;
+        return new;
+    }
+    if c == b'l' {
+        new.stated = a.value;
+        return new;
+    }
+    if c == b'p' {
+        return State {
+            frame: state.frame,
+            stated: state.stated,
+            bytes: state.bytes,
+            numbers: state.numbers,
+            slot: a.value,
+            pairs: b.value,
+            made_up: MadeUp::Pairs,
+        };
+    }
+    State {
+        frame: state.frame,
+        stated: state.stated,
+        bytes: state.bytes,
+        numbers: state.numbers,
+        slot: 0,
+        pairs: 0,
+        made_up: MadeUp::Rate,
+    }
+}
+
 fn run_line(
     text: &[u8],
+    last: &mut [u8],
     bytes: &mut [u8],
     numbers: &mut [i32],
     out: &mut [u8],
@@ -331,14 +424,14 @@ fn run_line(
     }
     let c = text[0];
     if c == b'f' {
-        return run_frame(text, bytes, numbers, out, state);
+        return run_frame(text, last, bytes, numbers, out, state);
     }
     if c == b's' {
-        run_slots(text, numbers, out, state);
+        run_slots(text, last, numbers, out, state);
         return state;
     }
     if c == b'o' {
-        run_reorder(text, out, state);
+        run_reorder(text, last, out, state);
         return state;
     }
     if c == b'e' {
@@ -351,56 +444,28 @@ fn run_line(
     set_up(text, c, state)
 }
 
-// What prints nothing.
-fn set_up(text: &[u8], c: u8, state: State) -> State {
-    if c == b'm' {
-        return lent(text, state);
-    }
-    if c == b'l' {
-        let stated = number(text, 0);
-        return with_reservoir(
-            Reservoir {
-                length: stated.value,
-            },
-            state,
-        );
-    }
-    if c == b'p' {
-        return with_pairs(text, state);
-    }
-    with_rate(state)
-}
-
-// Before the first frame there is neither header nor side information.
-fn begin() -> State {
-    let a = no_side(Refusal::MadeUpRecord);
-    let info = a.info;
-    State {
-        reservoir: emptied(),
-        header: FrameHeader {
-            version: MpegVersion::Mpeg1,
-            crc: false,
-            bitrate: BitRate::Kbps8,
-            rate: SampleRate::Hz8000,
-            padding: false,
-            channels: Channels::Mono,
-            copyright: false,
-            original: false,
-            emphasis: Emphasis::NoEmphasis,
-        },
-        info,
+fn walk(text: &[u8], last: &mut [u8], bytes: &mut [u8], numbers: &mut [i32], out: &mut [u8]) {
+    let mut state = State {
+        frame: 0,
+        stated: 0,
         bytes: 4096,
         numbers: 2304,
-    }
-}
-
-fn walk(text: &[u8], bytes: &mut [u8], numbers: &mut [i32], out: &mut [u8]) {
-    let mut state = begin();
+        slot: 0,
+        pairs: 0,
+        made_up: MadeUp::Nothing,
+    };
     let mut at = 0usize;
     while at < text.len() {
         let end = line_end(text, at);
         let line = unread(text, Card { from: at, end });
-        state = run_line(line, &mut *bytes, &mut *numbers, &mut *out, state);
+        state = run_line(
+            line,
+            &mut *last,
+            &mut *bytes,
+            &mut *numbers,
+            &mut *out,
+            state,
+        );
         if text.len() <= end {
             return;
         }
@@ -410,10 +475,17 @@ fn walk(text: &[u8], bytes: &mut [u8], numbers: &mut [i32], out: &mut [u8]) {
 
 fn main() {
     let mut text = io::large_buffer();
+    let mut last = [0u8; 2048];
     let mut bytes = io::buffer();
     let mut numbers = [0i32; 2304];
     let mut out = io::large_buffer();
     let filled = fill(STDIN_FILENO, &mut text, blank());
     let c = filled.card;
-    walk(unread(&text, c), &mut bytes, &mut numbers, &mut out);
+    walk(
+        unread(&text, c),
+        &mut last,
+        &mut bytes,
+        &mut numbers,
+        &mut out,
+    );
 }

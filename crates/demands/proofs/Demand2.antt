@@ -36,7 +36,7 @@ use Rattle.window.specs.Window.{Put, slidOf}
 use Rattle.text.specs.Text.{decimalOf, signedOf}
 use Rattle.card.specs.Window.{unreadOf, takenOf, Slid}
 use Rattle.fields.specs.Values.{headerValues, sideValues, recordValues, isTold, stepOf}
-use Rattle.lines.specs.Said.{frameLine, refusedLine, endLine, slotLine, numbersText}
+use Rattle.lines.specs.Said.{frameLine, refusedLine, endLine, slotsText, numbersText}
 use Rattle.front_end.specs.Calls.{FrameDone, frameStep, SlotsDone, slotsStep, ReorderDone, reorderStep, sizesTold}
 use Rattle.bits.proofs.bit.Reads as bit
 use Rattle.bits.proofs.bit.Kinds as bit-kinds
@@ -172,8 +172,8 @@ use Rattle.lines.proofs.put_refused.Reads as put-refused
 use Rattle.lines.proofs.put_refused.Kinds as put-refused-kinds
 use Rattle.lines.proofs.put_end.Reads as put-end
 use Rattle.lines.proofs.put_end.Kinds as put-end-kinds
-use Rattle.lines.proofs.put_slot.Reads as put-slot
-use Rattle.lines.proofs.put_slot.Kinds as put-slot-kinds
+use Rattle.lines.proofs.put_slots.Reads as put-slots
+use Rattle.lines.proofs.put_slots.Kinds as put-slots-kinds
 use Rattle.lines.proofs.put_numbers.Reads as put-numbers
 use Rattle.lines.proofs.put_numbers.Kinds as put-numbers-kinds
 use Rattle.lines.proofs.part.Reads as part
@@ -479,8 +479,8 @@ pub put-end-is : (c : Call put-end-kinds.ps put-end-kinds.r put-end.Post) → Pu
 put-end-is c = c .promised
 
 -- document 01, "Worked from bytes": the output of `slots`
-pub put-slot-is : (c : Call put-slot-kinds.ps put-slot-kinds.r put-slot.Post) → Put (now (c .args .0)) (c .args .1 .0) (slotLine (c .args .1 .1 .0) (c .args .1 .1 .1 .0) (toldOutcome ((c .args .1 .1 .1 .1 .0) .outcome)) (now (c .args .1 .1 .1 .1 .1 .0))) (c .answer) (now (c .exit .0))
-put-slot-is c = c .promised
+pub put-slots-is : (c : Call put-slots-kinds.ps put-slots-kinds.r put-slots.Post) → Put (now (c .args .0)) (c .args .1 .0) (slotsText (c .args .1 .1 .0) (toldOutcome ((c .args .1 .1 .1 .0) .outcome)) (toldOutcome ((c .args .1 .1 .1 .1 .0) .outcome)) (toldOutcome ((c .args .1 .1 .1 .1 .1 .0) .outcome)) (toldOutcome ((c .args .1 .1 .1 .1 .1 .1 .0) .outcome)) (now (c .args .1 .1 .1 .1 .1 .1 .1 .0))) (c .answer) (now (c .exit .0))
+put-slots-is c = c .promised
 
 -- document 01, "Worked from bytes": the output of `slots`
 pub put-numbers-is : (c : Call put-numbers-kinds.ps put-numbers-kinds.r put-numbers.Post) → Put (now (c .args .0)) (c .args .1 .0) (numbersText (now (c .args .1 .1 .0))) (c .answer) (now (c .exit .0))

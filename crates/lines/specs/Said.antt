@@ -45,3 +45,7 @@ unfoldable pub slotLine : Bool → ℕ → SlotSaid → List ℤ → List ℕ
 slotLine two n lacking vs = []
 slotLine two n (refusedBy k) vs = slotStart (pick two (n / 2) n) (pick two (n % 2) 0) ++ notReadEnd k
 slotLine two n (counted k) vs = slotStart (pick two (n / 2) n) (pick two (n % 2) 0) ++ readEnd k (take k (drop (576 * n) vs))
+
+-- the four slots of a frame's answer
+unfoldable pub slotsText : Bool → SlotSaid → SlotSaid → SlotSaid → SlotSaid → List ℤ → List ℕ
+slotsText two a b c d vs = slotLine two 0 a vs ++ slotLine two 1 b vs ++ slotLine two 2 c vs ++ slotLine two 3 d vs

@@ -12,7 +12,7 @@ ghost use lib.ListN.{take, drop};
 ghost use Rattle.standard.specs.Refusals.{numberOf, toldOutcome};
 ghost use Rattle.standard.specs.Told.{pick};
 ghost use Rattle.window.specs.Window.{Put};
-ghost use Rattle.lines.specs.Said.{frameLine, refusedLine, endLine, slotStart, numbersText, readEnd, notReadEnd, slotLine};
+ghost use Rattle.lines.specs.Said.{frameLine, refusedLine, endLine, slotStart, numbersText, readEnd, notReadEnd, slotLine, slotsText};
 
 // A frame that was accepted.
 pub fn put_frame(out: &mut [u8], at: usize, n: u64, length: u64) -> usize
@@ -114,14 +114,7 @@ fn channel(two: bool, n: u64) -> u64
 }
 
 // Slot n of a frame with two channels, or with one. Its numbers are those from 576 n on, up to its count.
-pub fn put_slot(
-    out: &mut [u8],
-    at: usize,
-    two: bool,
-    n: u8,
-    slot: SlotAnswer,
-    numbers: &[i32],
-) -> usize
+fn put_slot(out: &mut [u8], at: usize, two: bool, n: u8, slot: SlotAnswer, numbers: &[i32]) -> usize
     ensures { λ r. ⌜ Put (now (out .entry)) at (slotLine two n (toldOutcome (slot .outcome)) (now (numbers .entry))) r (now (out .exit)) ⌝ }
 {
     let o = slot.outcome;
@@ -139,4 +132,23 @@ pub fn put_slot(
             put_read(out, a, count as u64, part(numbers, from, count as usize))
         }
     }
+}
+
+// The four slots of a frame's answer, of which those that the frame lacks print nothing.
+pub fn put_slots(
+    out: &mut [u8],
+    at: usize,
+    two: bool,
+    first: SlotAnswer,
+    second: SlotAnswer,
+    third: SlotAnswer,
+    fourth: SlotAnswer,
+    numbers: &[i32],
+) -> usize
+    ensures { λ r. ⌜ Put (now (out .entry)) at (slotsText two (toldOutcome (first .outcome)) (toldOutcome (second .outcome)) (toldOutcome (third .outcome)) (toldOutcome (fourth .outcome)) (now (numbers .entry))) r (now (out .exit)) ⌝ }
+{
+    let a = put_slot(&mut *out, at, two, 0, first, numbers);
+    let b = put_slot(&mut *out, a, two, 1, second, numbers);
+    let c = put_slot(&mut *out, b, two, 2, third, numbers);
+    put_slot(out, c, two, 3, fourth, numbers)
 }

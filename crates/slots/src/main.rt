@@ -14,7 +14,7 @@ use libc::STDOUT_FILENO;
 use lines::put_end;
 use lines::put_frame;
 use lines::put_refused;
-use lines::put_slot;
+use lines::put_slots;
 use reservoir::emptied;
 use sizes::is_two;
 use standard::FrameAnswer;
@@ -128,21 +128,22 @@ fn refused(out: &mut [u8], at: usize, n: u64, why: Refusal, input: Input) -> Pla
     }
 }
 
-fn put_slots(out: &mut [u8], at: usize, a: FrameAnswer, numbers: &[i32]) -> usize {
-    let h = a.header;
-    let channels = h.channels;
-    let two = is_two(channels);
-    let slots = a.slots;
-    let b = put_slot(&mut *out, at, two, 0, slots[0], numbers);
-    let c = put_slot(&mut *out, b, two, 1, slots[1], numbers);
-    let d = put_slot(&mut *out, c, two, 2, slots[2], numbers);
-    put_slot(out, d, two, 3, slots[3], numbers)
-}
-
 // A frame's lines, written out where the lent bytes might not hold those of the next one too.
 fn accepted(out: &mut [u8], at: usize, n: u64, a: FrameAnswer, numbers: &[i32]) -> Place {
+    let header = a.header;
+    let channels = header.channels;
+    let slots = a.slots;
     let first = put_frame(&mut *out, at, n, a.length as u64);
-    let next = put_slots(&mut *out, first, a, numbers);
+    let next = put_slots(
+        &mut *out,
+        first,
+        is_two(channels),
+        slots[0],
+        slots[1],
+        slots[2],
+        slots[3],
+        numbers,
+    );
     if next < FULL {
         return Place {
             at: next,

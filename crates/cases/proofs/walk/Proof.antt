@@ -9,18 +9,14 @@ use Rattle.cases.proofs.walk.Tie as tie
 use Rattle.cases.proofs.walk.Reads as reads
 use Rattle.cases.proofs.walk.Lts as lts
 use Rattle.card.proofs.unread.Reads as unread-reads
-use Rattle.cases.proofs.begin.Reads as begin-reads
 use Rattle.cases.proofs.run_line.Reads as run-line-reads
 use Rattle.cases.proofs.words.line_end.Reads as line-end-reads
 
 abbrev Inv-loop : tie.InvT-loop
-Inv-loop text bytes₀ numbers₀ out₀ state₀ at₀ bytes numbers out state at = (length bytes ≡ length bytes₀) × (length numbers ≡ length numbers₀) × (length out ≡ length out₀)
+Inv-loop text last₀ bytes₀ numbers₀ out₀ state₀ at₀ last bytes numbers out state at = (length last ≡ length last₀) × (length bytes ≡ length bytes₀) × (length numbers ≡ length numbers₀) × (length out ≡ length out₀)
 
 abbrev μ-loop : tie.MeasureT-loop
-μ-loop text bytes₀ numbers₀ out₀ state₀ at₀ bytes numbers out state at = length text - at
-
-begin-requires : tie.Need-begin-requires Inv-loop μ-loop
-begin-requires c κs = search needs
+μ-loop text last₀ bytes₀ numbers₀ out₀ state₀ at₀ last bytes numbers out state at = length text - at
 
 loop-holds : tie.Need-loop-holds Inv-loop μ-loop
 loop-holds c = search needs
@@ -43,26 +39,32 @@ same-length-2 c = search needs
 same-length-3 : tie.Need-same-length-3 Inv-loop μ-loop
 same-length-3 c = search needs
 
+same-length-4 : tie.Need-same-length-4 Inv-loop μ-loop
+same-length-4 c = search needs
+
 returns : tie.Need-returns Inv-loop μ-loop
 returns c = search needs
 
 add-at : tie.Need-add-at Inv-loop μ-loop
-add-at c = omega (arith, c .before .before .before .before .before .before .before .before .before .before .before .before .before .before .before .before .before .before .good .0)
+add-at c = omega (arith, c .before .before .before .before .before .before .before .before .before .before .before .before .before .before .before .before .before .before .before .before .before .good .0)
 
 loop-less : tie.Need-loop-less Inv-loop μ-loop
-loop-less c = omega arith
+loop-less c = omega (arith, c .before .before .before .before .before .before .before .before .before .before .before .before .before .before .line-end .ensures)
 
 loop-again : tie.Need-loop-again Inv-loop μ-loop
 loop-again c = search needs
-
-same-length-4 : tie.Need-same-length-4 Inv-loop μ-loop
-same-length-4 c = search needs
 
 same-length-5 : tie.Need-same-length-5 Inv-loop μ-loop
 same-length-5 c = search needs
 
 same-length-6 : tie.Need-same-length-6 Inv-loop μ-loop
 same-length-6 c = search needs
+
+same-length-7 : tie.Need-same-length-7 Inv-loop μ-loop
+same-length-7 c = search needs
+
+same-length-8 : tie.Need-same-length-8 Inv-loop μ-loop
+same-length-8 c = search needs
 
 returns-2 : tie.Need-returns-2 Inv-loop μ-loop
 returns-2 c = search needs
@@ -73,7 +75,6 @@ walk-spec =
     (tie.spec
     Inv-loop
     μ-loop
-    begin-requires
     loop-holds
     line-end-requires
     unread-requires
@@ -81,11 +82,13 @@ walk-spec =
     same-length
     same-length-2
     same-length-3
+    same-length-4
     returns
     add-at
     loop-less
     loop-again
-    same-length-4
     same-length-5
     same-length-6
+    same-length-7
+    same-length-8
     returns-2)

@@ -7,8 +7,8 @@ use Rattle.lines.proofs.put_refused.Reads as put-refused
 use Rattle.lines.proofs.put_refused.Kinds as put-refused-kinds
 use Rattle.lines.proofs.put_end.Reads as put-end
 use Rattle.lines.proofs.put_end.Kinds as put-end-kinds
-use Rattle.lines.proofs.put_slot.Reads as put-slot
-use Rattle.lines.proofs.put_slot.Kinds as put-slot-kinds
+use Rattle.lines.proofs.put_slots.Reads as put-slots
+use Rattle.lines.proofs.put_slots.Kinds as put-slots-kinds
 use Rattle.lines.proofs.put_numbers.Reads as put-numbers
 use Rattle.lines.proofs.put_numbers.Kinds as put-numbers-kinds
 use Rattle.lines.proofs.part.Reads as part
@@ -23,8 +23,8 @@ put-refused-unique κs a x y s t p q = (alike (p .next) (q .next), alike (p .byt
 pub put-end-unique : OneState put-end-kinds.ps put-end-kinds.r put-end.Post (λ κs s. now (s .0))
 put-end-unique κs a x y s t p q = (alike (p .next) (q .next), alike (p .bytes) (q .bytes))
 
-pub put-slot-unique : OneState put-slot-kinds.ps put-slot-kinds.r put-slot.Post (λ κs s. now (s .0))
-put-slot-unique κs a x y s t p q = (alike (p .next) (q .next), alike (p .bytes) (q .bytes))
+pub put-slots-unique : OneState put-slots-kinds.ps put-slots-kinds.r put-slots.Post (λ κs s. now (s .0))
+put-slots-unique κs a x y s t p q = (alike (p .next) (q .next), alike (p .bytes) (q .bytes))
 
 pub put-numbers-unique : OneState put-numbers-kinds.ps put-numbers-kinds.r put-numbers.Post (λ κs s. now (s .0))
 put-numbers-unique κs a x y s t p q = (alike (p .next) (q .next), alike (p .bytes) (q .bytes))
