@@ -20,7 +20,7 @@ use text::put_number;
 use text::put_signed;
 use window::put;
 ghost use mathlib.Core.Path.{_≡_};
-ghost use Prim.Native.Nat.{_≤_, min};
+ghost use Prim.Native.Nat.{_<_, _≤_, min};
 
 // Numbers of a slot.
 const SLOT: usize = 576;
@@ -40,15 +40,17 @@ fn put_row(out: &mut [u8], at: usize, word: &[u8], values: &[u64]) -> usize {
     put(out, next, b"\n")
 }
 
-fn wide(n: u8) -> u64 {
-    n as u64
+pub(crate) fn wide(n: u8) -> usize
+    ensures { λ r. ⌜ r < 256 ⌝ }
+{
+    n as usize
 }
 
 fn put_factors(out: &mut [u8], at: usize, word: &[u8], factors: &[u8]) -> usize {
     let mut next = put(&mut *out, at, word);
     let mut i = 0usize;
     while i < factors.len() {
-        next = put_item(&mut *out, next, wide(factors[i]));
+        next = put_item(&mut *out, next, wide(factors[i]) as u64);
         i += 1;
     }
     put(out, next, b"\n")
@@ -65,7 +67,7 @@ fn put_numbers(out: &mut [u8], at: usize, word: &[u8], numbers: &[i32]) -> usize
     put(out, next, b"\n")
 }
 
-fn least(a: usize, b: usize) -> usize
+pub(crate) fn least(a: usize, b: usize) -> usize
     ensures { λ r. ⌜ r ≡ min a b ⌝ }
 {
     if a < b { a } else { b }

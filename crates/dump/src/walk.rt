@@ -1,6 +1,8 @@
 // The walk over the input: from try to try of a card, and from card to card.
+use crate::rows::least;
 use crate::rows::put_answer;
 use crate::rows::put_card;
+use crate::rows::wide;
 use card::Card;
 use card::Input;
 use card::blank;
@@ -14,8 +16,6 @@ use libc::STDOUT_FILENO;
 use reservoir::emptied;
 use standard::Reservoir;
 use standard::Verdict;
-ghost use mathlib.Core.Path.{_≡_};
-ghost use Prim.Native.Nat.{_<_, min};
 
 // The longest frame and more: what a try must find in the window, unless the input has ended.
 const AHEAD: usize = 8192;
@@ -54,12 +54,6 @@ pub(crate) struct Walk {
     number: u64,
     pub(crate) tries: u64,
     done: bool,
-}
-
-fn least(a: usize, b: usize) -> usize
-    ensures { λ r. ⌜ r ≡ min a b ⌝ }
-{
-    if a < b { a } else { b }
 }
 
 fn same(a: &[u8], b: &[u8]) -> bool {
@@ -179,12 +173,6 @@ fn opened(out: &mut [u8], w: Walk, card: Card, left: usize) -> Walk {
         tries: w.tries,
         done: false,
     }
-}
-
-fn wide(n: u8) -> usize
-    ensures { λ r. ⌜ r < 256 ⌝ }
-{
-    n as usize
 }
 
 // The next of many cards, if there is one.
