@@ -1,8 +1,9 @@
 // A window that slides over a card of any length: lent bytes hold a part of it, and a record says which of them are still unread.
 use libc::read;
+use window::least;
 use window::slide;
 ghost use mathlib.Core.Path.{_≡_};
-ghost use Prim.Native.Nat.{_≤_, min};
+ghost use Prim.Native.Nat.{_≤_};
 ghost use lib.ListN.{length};
 ghost use Rattle.card.specs.Window.{unreadOf, takenOf, Slid, GotIn, ReadOn, FilledUp};
 
@@ -35,12 +36,6 @@ pub fn blank() -> Card
     ensures { λ r. ⌜ (r .from ≡ 0) × (r .end ≡ 0) ⌝ }
 {
     Card { from: 0, end: 0 }
-}
-
-fn least(a: usize, b: usize) -> usize
-    ensures { λ r. ⌜ r ≡ min a b ⌝ }
-{
-    if a < b { a } else { b }
 }
 
 // The bytes that are still unread. Of a record that reaches beyond the lent bytes, those that are there.

@@ -43,12 +43,11 @@ use standard::SlotAnswer;
 use standard::SlotsAnswer;
 use standard::Verdict;
 use text::put_number;
+use window::least;
 use window::put;
 use words::bytes_from;
 use words::line_end;
 use words::number;
-ghost use mathlib.Core.Path.{_≡_};
-ghost use Prim.Native.Nat.{min};
 
 // What the next case goes by, beside the last frame's bytes: how many these are, the reservoir's stated length, how much memory is
 // lent, and what is made up of the last frame's header (the rate) and side information (the pairs of a slot).
@@ -70,12 +69,6 @@ enum MadeUp {
 
 fn say(out: &[u8], end: usize) {
     write_all(STDOUT_FILENO, unread(out, Card { from: 0, end }));
-}
-
-fn least(a: usize, b: usize) -> usize
-    ensures { λ r. ⌜ r ≡ min a b ⌝ }
-{
-    if a < b { a } else { b }
 }
 
 fn put_verdict(out: &mut [u8], at: usize, v: Verdict) -> usize {

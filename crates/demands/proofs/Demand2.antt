@@ -138,6 +138,8 @@ use Rattle.reorder.proofs.reorder.Reads as reorder
 use Rattle.reorder.proofs.reorder.Kinds as reorder-kinds
 use Rattle.bit_reader.proofs.field_after.Reads as field-after
 use Rattle.bit_reader.proofs.field_after.Kinds as field-after-kinds
+use Rattle.window.proofs.least.Reads as least
+use Rattle.window.proofs.least.Kinds as least-kinds
 use Rattle.window.proofs.put.Reads as put
 use Rattle.window.proofs.put.Kinds as put-kinds
 use Rattle.window.proofs.slide.Reads as slide
@@ -405,6 +407,10 @@ pub field-after-is : (c : Call field-after-kinds.ps field-after-kinds.r field-af
 field-after-is c = c .promised
 
 -- ---- window
+-- no clause: how far two ranges go both
+pub least-is : (c : Call least-kinds.ps least-kinds.r least.Post) → c .answer ≡ min (c .args .0) (c .args .1 .0)
+least-is c = c .promised
+
 -- no clause: bytes put into lent memory
 pub put-is : (c : Call put-kinds.ps put-kinds.r put.Post) → Put (now (c .args .0)) (c .args .1 .0) (now (c .args .1 .1 .0)) (c .answer) (now (c .exit .0))
 put-is c = c .promised

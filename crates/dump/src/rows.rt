@@ -4,11 +4,13 @@ use fields::header_values;
 use fields::is_told;
 use fields::record_values;
 use fields::side_values;
+use lines::part;
+use lines::put_numbers;
 use refusals::number_of;
 use reorder::reorder;
 use sizes::channel_count;
 use sizes::granules;
-use standard::BlockType;
+use sizes::is_short;
 use standard::FrameAnswer;
 use standard::FrameHeader;
 use standard::SideInfo;
@@ -17,10 +19,9 @@ use standard::SlotOutcome;
 use standard::SlotRecord;
 use standard::Verdict;
 use text::put_number;
-use text::put_signed;
+use window::least;
 use window::put;
-ghost use mathlib.Core.Path.{_≡_};
-ghost use Prim.Native.Nat.{_<_, _≤_, min};
+ghost use Prim.Native.Nat.{_<_, _≤_};
 
 // Numbers of a slot.
 const SLOT: usize = 576;
@@ -56,34 +57,10 @@ fn put_factors(out: &mut [u8], at: usize, word: &[u8], factors: &[u8]) -> usize 
     put(out, next, b"\n")
 }
 
-fn put_numbers(out: &mut [u8], at: usize, word: &[u8], numbers: &[i32]) -> usize {
-    let mut next = put(&mut *out, at, word);
-    let mut i = 0usize;
-    while i < numbers.len() {
-        next = put(&mut *out, next, b" ");
-        next = put_signed(&mut *out, next, numbers[i]);
-        i += 1;
-    }
-    put(out, next, b"\n")
-}
-
-pub(crate) fn least(a: usize, b: usize) -> usize
-    ensures { λ r. ⌜ r ≡ min a b ⌝ }
-{
-    if a < b { a } else { b }
-}
-
-fn first(numbers: &[i32], n: usize) -> &[i32] {
-    let from = 0usize;
-    let end = least(n, numbers.len());
-    &numbers[from..end]
-}
-
-// The numbers of the slot n.
-fn part(numbers: &[i32], n: u8) -> &[i32] {
-    let from = least(SLOT * n as usize, numbers.len());
-    let end = least(from + SLOT, numbers.len());
-    &numbers[from..end]
+fn put_signs(out: &mut [u8], at: usize, word: &[u8], numbers: &[i32]) -> usize {
+    let a = put(&mut *out, at, word);
+    let b = put_numbers(&mut *out, a, numbers);
+    put(out, b, b"\n")
 }
 
 // A slot's numbers after the reorder.
@@ -102,16 +79,7 @@ fn put_reordered(
         i += 1;
     }
     reorder(h, r, &mut after);
-    put_numbers(out, at, b"reordered", &after)
-}
-
-fn is_short(b: BlockType) -> bool {
-    match b {
-        BlockType::Long => false,
-        BlockType::Start => false,
-        BlockType::Short => true,
-        BlockType::End => false,
-    }
+    put_signs(out, at, b"reordered", &after)
 }
 
 fn put_slot_factors(out: &mut [u8], at: usize, s: SlotAnswer) -> usize {
@@ -132,7 +100,7 @@ fn put_read(
     numbers: &[i32],
 ) -> usize {
     let a = put_slot_factors(&mut *out, at, s);
-    let b = put_numbers(&mut *out, a, b"numbers", first(numbers, count as usize));
+    let b = put_signs(&mut *out, a, b"numbers", part(numbers, 0, count as usize));
     let block = r.block;
     if is_short(block) {
         return put_reordered(out, b, h, r, numbers);
@@ -242,7 +210,7 @@ fn put_slots(
             r,
             s,
             place_of(h, n as u8),
-            part(numbers, n as u8),
+            part(numbers, SLOT * n, SLOT),
         );
         n += 1;
     }

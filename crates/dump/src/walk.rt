@@ -1,5 +1,4 @@
 // The walk over the input: from try to try of a card, and from card to card.
-use crate::rows::least;
 use crate::rows::put_answer;
 use crate::rows::put_card;
 use crate::rows::wide;
@@ -16,6 +15,7 @@ use libc::STDOUT_FILENO;
 use reservoir::emptied;
 use standard::Reservoir;
 use standard::Verdict;
+use window::least;
 
 // The longest frame and more: what a try must find in the window, unless the input has ended.
 const AHEAD: usize = 8192;

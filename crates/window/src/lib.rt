@@ -4,6 +4,13 @@ ghost use Prim.Native.Nat.{_-_, min};
 ghost use lib.ListN.{length};
 ghost use Rattle.window.specs.Window.{Put, slidOf};
 
+// How far two ranges go both.
+pub fn least(a: usize, b: usize) -> usize
+    ensures { λ r. ⌜ r ≡ min a b ⌝ }
+{
+    if a < b { a } else { b }
+}
+
 fn room_for(lent: usize, at: usize, n: usize) -> usize
     ensures { λ r. ⌜ r ≡ min n (lent - at) ⌝ }
 {

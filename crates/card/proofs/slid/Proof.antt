@@ -6,7 +6,7 @@ use Rattle.card.proofs.slid.Statement.{statement}
 use Rattle.card.proofs.slid.Tie as tie
 use Rattle.card.proofs.slid.Reads as reads
 use Rattle.card.proofs.slid.Lts as lts
-use Rattle.card.proofs.least.Reads as least-reads
+use Rattle.window.proofs.least.Reads as least-reads
 use Rattle.window.proofs.slide.Reads as slide-reads
 
 least-requires : tie.Need-least-requires

@@ -5,7 +5,7 @@ use Rattle.card.proofs.unread.Statement.{statement}
 use Rattle.card.proofs.unread.Tie as tie
 use Rattle.card.proofs.unread.Reads as reads
 use Rattle.card.proofs.unread.Lts as lts
-use Rattle.card.proofs.least.Reads as least-reads
+use Rattle.window.proofs.least.Reads as least-reads
 
 least-requires : tie.Need-least-requires
 least-requires c κs = search needs

@@ -1,10 +1,15 @@
 -- What no two readers may disagree on, for every public function of `window`: what is answered, and one state of the lent bytes.
 use denote.Ref.{now}
-use Rattle.demands.proofs.Call.{alike, OneState, OneShown}
+use Rattle.demands.proofs.Call.{alike, OneAnswer, OneState, OneShown}
+use Rattle.window.proofs.least.Reads as least
+use Rattle.window.proofs.least.Kinds as least-kinds
 use Rattle.window.proofs.put.Reads as put
 use Rattle.window.proofs.put.Kinds as put-kinds
 use Rattle.window.proofs.slide.Reads as slide
 use Rattle.window.proofs.slide.Kinds as slide-kinds
+
+pub least-unique : OneAnswer least-kinds.ps least-kinds.r least.Post
+least-unique κs a x y s t p q = alike p q
 
 pub put-unique : OneState put-kinds.ps put-kinds.r put.Post (λ κs s. now (s .0))
 put-unique κs a x y s t p q = (alike (p .next) (q .next), alike (p .bytes) (q .bytes))

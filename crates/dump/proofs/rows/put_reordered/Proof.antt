@@ -47,14 +47,14 @@ slice-aggregate-reorder c = search needs
 reorder-requires : tie.Need-reorder-requires Inv-loop μ-loop
 reorder-requires c κs = search needs
 
-slice-aggregate-put-numbers : tie.Need-slice-aggregate-put-numbers Inv-loop μ-loop
-slice-aggregate-put-numbers c = search needs
+slice-aggregate-put-signs : tie.Need-slice-aggregate-put-signs Inv-loop μ-loop
+slice-aggregate-put-signs c = search needs
 
-slice-aggregate-put-numbers-2 : tie.Need-slice-aggregate-put-numbers-2 Inv-loop μ-loop
-slice-aggregate-put-numbers-2 c = search needs
+slice-aggregate-put-signs-2 : tie.Need-slice-aggregate-put-signs-2 Inv-loop μ-loop
+slice-aggregate-put-signs-2 c = search needs
 
-put-numbers-requires : tie.Need-put-numbers-requires Inv-loop μ-loop
-put-numbers-requires c κs = search needs
+put-signs-requires : tie.Need-put-signs-requires Inv-loop μ-loop
+put-signs-requires c κs = search needs
 
 same-length : tie.Need-same-length Inv-loop μ-loop
 same-length c = search needs
@@ -79,8 +79,8 @@ put-reordered-spec =
     loop-again
     slice-aggregate-reorder
     reorder-requires
-    slice-aggregate-put-numbers
-    slice-aggregate-put-numbers-2
-    put-numbers-requires
+    slice-aggregate-put-signs
+    slice-aggregate-put-signs-2
+    put-signs-requires
     same-length
     returns)

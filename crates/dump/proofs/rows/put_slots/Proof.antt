@@ -35,8 +35,8 @@ cast-place-of c = omega arith
 place-of-requires : tie.Need-place-of-requires Inv-loop μ-loop
 place-of-requires c κs = search needs
 
-cast-part : tie.Need-cast-part Inv-loop μ-loop
-cast-part c = omega arith
+mul-part : tie.Need-mul-part Inv-loop μ-loop
+mul-part c = omega arith
 
 part-requires : tie.Need-part-requires Inv-loop μ-loop
 part-requires c κs = search needs
@@ -72,7 +72,7 @@ put-slots-spec =
     array-copy-out-s
     cast-place-of
     place-of-requires
-    cast-part
+    mul-part
     part-requires
     put-slot-requires
     add-n
