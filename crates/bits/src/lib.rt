@@ -1,6 +1,6 @@
-// A bit, and a field of bits, at a bit place of a slice: most significant first, and 0 past the end.
+// A bit, and a field of bits, at a bit place of a slice: most significant first, and 0 past the end; and how many bits are left.
 ghost use mathlib.Core.Path.{_≡_};
-ghost use Prim.Native.Nat.{_<_, min};
+ghost use Prim.Native.Nat.{_-_, _<_, min};
 ghost use lib.ListN.{getD};
 ghost use Rattle.standard.specs.Bits.{bitAt, fieldAt};
 
@@ -45,11 +45,12 @@ pub fn field(s: &[u8], at: usize, n: usize) -> u16
     ((word >> (24 - at % 8 - m)) % (1u32 << m)) as u16
 }
 
-// The seven bits from a place on as a number; bits past the end are 0. They lie within two bytes.
-pub fn seven(s: &[u8], at: usize) -> usize
-    ensures { λ r. ⌜ r ≡ fieldAt (now (s .entry)) at 7 ⌝ }
+// How many bits are left from one place up to another.
+pub fn left(at: usize, end: usize) -> usize
+    ensures { λ r. ⌜ r ≡ end - at ⌝ }
 {
-    let i = at / 8;
-    let word = byte(s, i) * 256 + byte(s, i + 1);
-    ((word >> (9 - at % 8)) % 128) as usize
+    if at < end {
+        return end - at;
+    }
+    0
 }

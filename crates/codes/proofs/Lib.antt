@@ -1,4 +1,2 @@
 pub mod Walking
-pub mod Bitwise
-pub mod Rows
 pub mod Shown

@@ -1,3 +1,4 @@
+pub mod Along
 pub mod Flat
 pub mod Walk
 pub mod WalkLaws

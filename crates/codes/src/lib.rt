@@ -2,15 +2,15 @@
 pub mod trees;
 
 use bits::bit;
-use bits::seven;
+use bits::left;
 use standard::Codeword;
 ghost use mathlib.Core.Path.{_≡_};
-ghost use mathlib.Core.Bool.{not};
-ghost use Prim.Native.Nat.{_-_, _<_};
-ghost use lib.Dec.{leb};
-ghost use Rattle.standard.specs.Bits.{«one», window};
+ghost use Prim.Native.Nat.{_+_, _-_, _*_, _/_, _%_, _≤_, _<_, min};
+ghost use lib.ListN.{length, getD};
+ghost use Rattle.standard.specs.Bits.{«one», fieldAt, window};
 ghost use Rattle.standard.specs.Codes.{escapeWidth};
-ghost use Rattle.codes.specs.Walk.{isLeaf, «start», «first», «taken», lookedUp};
+ghost use Rattle.codes.specs.Walk.{«start», lookedUp};
+ghost use Rattle.codes.specs.Along.{Along};
 
 const ESCAPES: [u8; 32] = [
     0,
@@ -70,44 +70,68 @@ fn start(trees: &[u16], table: usize) -> u16
     trees[table]
 }
 
-// Whether a link leads on, to two links that are there.
-fn leads_on(trees: &[u16], link: u16) -> bool
-    ensures { λ r. ⌜ r ≡ not (isLeaf (now (trees .entry)) link) ⌝ }
+// Links lead on whose second link is within so many entries: from 0x8000 on every link is a leaf.
+fn reach(trees: &[u16]) -> usize
+    ensures { λ r. ⌜ r ≡ min (length (now (trees .entry))) 32769 ⌝ }
 {
-    let n = link as usize;
-    n + 1 < trees.len()
+    let n = trees.len();
+    if n < 0x8001 {
+        return n;
+    }
+    0x8001
 }
 
-// Whether there are bits for a first step.
-fn enough(at: usize, end: usize) -> bool
-    ensures { λ r. ⌜ r ≡ leb 7 (end - at) ⌝ }
+// The link for a bit, after one that leads on.
+fn child(trees: &[u16], link: usize, bit: usize) -> usize
+    requires { ⌜ (link + 1 < length (now trees)) × (bit ≤ 1) ⌝ }
+    ensures { λ r. ⌜ (r ≡ getD (now (trees .entry)) (link + bit) 0) × (r < 65536) ⌝ }
 {
-    if at < end {
-        return 7 <= end - at;
-    }
-    false
+    trees[link + bit] as usize
 }
 
-// The entry for seven bits, in the row behind a tree's first two links.
-fn first(trees: &[u16], link: u16, i: usize) -> u16
-    requires { ⌜ i < 128 ⌝ }
-    ensures { λ r. ⌜ r ≡ «first» (now (trees .entry)) link i ⌝ }
+// A byte that is there.
+fn byte(s: &[u8], i: usize) -> u32
+    requires { ⌜ i < length (now s) ⌝ }
+    ensures { λ r. ⌜ (r ≡ getD (now (s .entry)) i 0) × (r < 256) ⌝ }
 {
-    let n = link as usize + 2 + i;
-    if n < trees.len() {
-        return trees[n];
-    }
-    0x8000
+    s[i] as u32
 }
 
-// How many of the seven bits an entry takes.
-fn taken(entry: u16) -> usize
-    ensures { λ r. ⌜ r ≡ «taken» entry ⌝ }
+// Four bytes as one number.
+fn four(s: &[u8], i: usize) -> u32
+    requires { ⌜ i + 4 ≤ length (now s) ⌝ }
+    ensures { λ r. ⌜ r ≡ fieldAt (now (s .entry)) (8 * i) 32 ⌝ }
 {
-    if entry < 0x8000 {
-        return 7;
+    byte(s, i) * 16777216 + byte(s, i + 1) * 65536 + byte(s, i + 2) * 256 + byte(s, i + 3)
+}
+
+// Where a descent came to, and how many bits it left.
+struct Descent {
+    link: usize,
+    left: usize,
+}
+
+// Down a tree by the bits of four bytes from the place `at` on, all but the last, so that no bit is fetched by itself: here a frame's
+// time goes. Where the four bytes are not there, it stays where it is.
+fn descend(trees: &[u16], size: usize, from: usize, s: &[u8], at: usize) -> Descent
+    requires { ⌜ (size ≡ min (length (now trees)) 32769) × (from < 65536) ⌝ }
+    ensures { λ r. ⌜ Along (now (trees .entry)) from (now (s .entry)) at (31 - at % 8 - r .left) (r .link)
+        × (r .left ≤ 31 - at % 8) × (r .link < 65536) ⌝ }
+{
+    let mut link = from;
+    let mut left = 31 - at % 8;
+    if s.len() < at / 8 + 4 {
+        return Descent { link, left };
     }
-    (entry / 256 % 8) as usize
+    let word = four(s, at / 8);
+    while left > 0 {
+        if size <= link + 1 {
+            return Descent { link, left };
+        }
+        link = child(trees, link, ((word >> left) % 2) as usize);
+        left -= 1;
+    }
+    Descent { link, left }
 }
 
 fn one(x: bool) -> usize
@@ -119,27 +143,28 @@ fn one(x: bool) -> usize
     0
 }
 
-// The next codeword of a table, from the bit place `at` on and not past `end`: seven bits in one step where there are so many,
-// then bit by bit.
+// The next codeword of a table, from the bit place `at` on and not past `end`: by four bytes at once, whatever stands past `end`, since
+// where they led past it the bits end within a codeword; then bit by bit.
 pub fn lookup(trees: &[u16], table: usize, s: &[u8], at: usize, end: usize) -> Codeword
     ensures { λ r. ⌜ r ≡ lookedUp (now (trees .entry)) table (window (now (s .entry)) at end) ⌝ }
 {
-    let mut link = start(trees, table);
-    let mut place = at;
-    if enough(at, end) {
-        link = first(trees, link, seven(s, at));
-        place = at + taken(link);
+    let size = reach(trees);
+    let most = left(at, end);
+    let d = descend(trees, size, start(trees, table) as usize, s, at);
+    let mut link = d.link;
+    let mut used = 31 - at % 8 - d.left;
+    if most < used {
+        return Codeword::Cut;
     }
-    while leads_on(trees, link) {
-        if end <= place {
+    while link + 1 < size {
+        if used == most {
             return Codeword::Cut;
         }
-        let n = link as usize;
-        link = trees[n + one(bit(s, place))];
-        place += 1;
+        link = child(trees, link, one(bit(s, at + used)));
+        used += 1;
     }
     Codeword::Coded {
         value: (link % 256) as u8,
-        used: place - at,
+        used,
     }
 }

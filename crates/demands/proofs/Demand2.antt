@@ -8,7 +8,7 @@
 -- The functions of `bit_reader` over a reader have no generated promise: Unique states them over their contracts.
 use mathlib.Core.Path.{_≡_, refl}
 use mathlib.Core.List.{[], map}
-use Prim.Native.Nat.{min}
+use Prim.Native.Nat.{_-_, min}
 use lib.ListN.{replicate, length, take, drop}
 use denote.Ref.{now}
 use Rattle.standard.specs.Bits.{bitAt, fieldAt, window}
@@ -42,8 +42,8 @@ use Rattle.bits.proofs.bit.Reads as bit
 use Rattle.bits.proofs.bit.Kinds as bit-kinds
 use Rattle.bits.proofs.field.Reads as field
 use Rattle.bits.proofs.field.Kinds as field-kinds
-use Rattle.bits.proofs.seven.Reads as seven
-use Rattle.bits.proofs.seven.Kinds as seven-kinds
+use Rattle.bits.proofs.left.Reads as left
+use Rattle.bits.proofs.left.Kinds as left-kinds
 use Rattle.tables.proofs.bands.long_start.Reads as long-start
 use Rattle.tables.proofs.bands.long_start.Kinds as long-start-kinds
 use Rattle.tables.proofs.bands.short_start.Reads as short-start
@@ -200,9 +200,9 @@ bit-is c = c .promised
 pub field-is : (c : Call field-kinds.ps field-kinds.r field.Post) → c .answer ≡ fieldAt (now (c .args .0)) (c .args .1 .0) (min (c .args .1 .1 .0) 16)
 field-is c = c .promised
 
--- the same, of seven bits: as many as a lookup takes in its first step
-pub seven-is : (c : Call seven-kinds.ps seven-kinds.r seven.Post) → c .answer ≡ fieldAt (now (c .args .0)) (c .args .1 .0) 7
-seven-is c = c .promised
+-- what is left of a slot's bits, from a place on
+pub left-is : (c : Call left-kinds.ps left-kinds.r left.Post) → c .answer ≡ c .args .1 .0 - c .args .0
+left-is c = c .promised
 
 -- ---- tables
 -- 11172-3, Table B.8; 13818-3, Table B.2

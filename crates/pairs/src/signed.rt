@@ -1,26 +1,17 @@
 // One number with its escape and sign bits, and two of them in turn: from a bit place on, and not past `end`.
 use bits::bit;
 use bits::field;
+use bits::left;
 use codes::escape_width;
 use standard::Magnitude;
 use standard::Number;
 use standard::Pair;
 use standard::Refusal;
 ghost use mathlib.Core.Path.{_≡_};
-ghost use Prim.Native.Nat.{_-_, _<_, _^_};
+ghost use Prim.Native.Nat.{_<_, _^_};
 ghost use Rattle.standard.specs.Bits.{window};
 ghost use Rattle.standard.specs.Codes.{escapeWidth};
 ghost use Rattle.standard.specs.Numbers.{magnitudeOf, signOf, «signed», numberIn, twoOf};
-
-// How many bits are left.
-fn left(at: usize, end: usize) -> usize
-    ensures { λ r. ⌜ r ≡ end - at ⌝ }
-{
-    if at < end {
-        return end - at;
-    }
-    0
-}
 
 // A value of a table's codeword with its escape. Only 15 has one, so its width is looked up only there.
 fn magnitude(s: &[u8], at: usize, end: usize, table: usize, value: u8) -> Magnitude

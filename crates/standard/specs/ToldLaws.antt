@@ -1,11 +1,8 @@
 -- What a test that is known makes of a pick; what a reading that told something passed on the way; and of two tests that both hold or both fail.
 use mathlib.Core.Path.{_≡_, refl, sym, ap, _∙_}
-use mathlib.Core.Bool.{Bool, true, false, not, _&&_, _||_}
+use mathlib.Core.Bool.{Bool, true, false, _&&_, _||_}
 use Prim.Native.Nat.{ℕ}
-use native.Mathlib.Decide.{decLt}
 use native.Mathlib.Omega.{arith}
-use borrow.Author.Tests.{lt-ltb, le-ltb, le-leb, lt-leb}
-use lib.Dec.{ltb, leb}
 use Rattle.standard.specs.Told.{Told, refused, told, pick}
 
 pub picked : {A : Type 0} {b : Bool} {x : A} (y : A) → b ≡ true → pick b x y ≡ x
@@ -48,11 +45,6 @@ neither-of false b e = (refl, e)
 
 pub neither : {a b : Bool} → a ≡ false → b ≡ false → a || b ≡ false
 neither {a} {b} p q = ap (λ (x : Bool). x || b) p ∙ q
-
--- the two tests of an order are each other's opposite
-pub below-not : (m n : ℕ) → ltb m n ≡ not (leb n m)
-below-not m n =
-    elim (decLt m n) [ yes h ↦ lt-ltb m n h ∙ sym (ap not (lt-leb n m h)) | no h ↦ le-ltb m n (omega arith) ∙ sym (ap not (le-leb n m (omega arith))) ]
 
 -- what holds of either side of a pick, under its test, holds of the pick
 pub either-way : {A : Type 0} (F : A → Type 0) (b : Bool) (x y : A) → (b ≡ true → F x) → (b ≡ false → F y) → F (pick b x y)

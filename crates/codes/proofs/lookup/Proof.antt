@@ -1,78 +1,74 @@
--- `codes::lookup` meets its contract. The loop's invariant: what is left of the walk, with the bits used, is the whole answer.
--- The measure is what is left of the bits. Assumes nothing.
-use mathlib.Core.Path.{sym, ap, _∙_}
-use mathlib.Core.Logic.{⊎-elim}
-use Prim.Native.Nat.{ℕ, _-_, _+_, _≤_}
+-- `codes::lookup` meets its contract. The loop's invariant: the walk stands along the bits used, and no more than there are. The measure
+-- is what is left of them. Assumes nothing.
+use mathlib.Core.Path.{_≡_, sym, ap, subst, _∙_}
+use Prim.Native.Nat.{ℕ, _-_, _+_, _%_, _≤_, _<_}
 use native.Mathlib.Omega.{arith}
 use borrow.Author.Needs.{needs}
-use borrow.Author.Tests.{leb-true}
 use denote.Ref.{now}
-use Rattle.standard.specs.Bits.{window}
-use Rattle.standard.specs.BitsLaws.{one-le, fieldAt-lt}
-use Rattle.codes.specs.Walk.{child, first, taken, lookedUp}
-use Rattle.codes.specs.WalkLaws.{taken-le}
-use Rattle.codes.proofs.Walking.{Walking, walking-begin, walking-step, walking-cut, walking-turn, walking-end, leads, ends, room}
+use Rattle.standard.specs.BitsLaws.{one-le}
+use lib.ListN.{getD}
+use Rattle.codes.specs.Walk.{child, start}
+use Rattle.codes.specs.Along.{Along}
+use Rattle.codes.proofs.Walking.{leads, ends, child-is, along-from, along-turn, lookup-short, lookup-cut, lookup-end}
 use Rattle.codes.proofs.lookup.Statement.{statement}
 use Rattle.codes.proofs.lookup.Tie as tie
 use Rattle.codes.proofs.lookup.Reads as reads
 use Rattle.codes.proofs.lookup.Lts as lts
 use Rattle.bits.proofs.bit.Reads as bit-reads
-use Rattle.bits.proofs.seven.Reads as seven-reads
-use Rattle.codes.proofs.enough.Reads as enough-reads
-use Rattle.codes.proofs.first.Reads as first-reads
-use Rattle.codes.proofs.leads_on.Reads as leads-on-reads
+use Rattle.bits.proofs.left.Reads as left-reads
+use Rattle.codes.proofs.child.Reads as child-reads
+use Rattle.codes.proofs.descend.Reads as descend-reads
 use Rattle.codes.proofs.one.Reads as one-reads
+use Rattle.codes.proofs.reach.Reads as reach-reads
 use Rattle.codes.proofs.start.Reads as start-reads
-use Rattle.codes.proofs.taken.Reads as taken-reads
 
 abbrev Inv-loop : tie.InvT-loop
-Inv-loop trees table s at end link₀ place₀ link place = Walking (lookedUp trees table (window s at end)) trees s at end place link
+Inv-loop trees table s at end size most link₀ used₀ link used = Along trees (start trees table) s at used link × (used ≤ most) × (link < 65536)
 
 abbrev μ-loop : tie.MeasureT-loop
-μ-loop trees table s at end link₀ place₀ link place = end - place
+μ-loop trees table s at end size most link₀ used₀ link used = most - used
+
+reach-requires : tie.Need-reach-requires Inv-loop μ-loop
+reach-requires c κs = tt
+
+left-requires : tie.Need-left-requires Inv-loop μ-loop
+left-requires c κs = tt
 
 start-requires : tie.Need-start-requires Inv-loop μ-loop
 start-requires c κs = tt
 
-enough-requires : tie.Need-enough-requires Inv-loop μ-loop
-enough-requires c κs = tt
+cast-descend : tie.Need-cast-descend Inv-loop μ-loop
+cast-descend c = search needs
 
-seven-requires : tie.Need-seven-requires Inv-loop μ-loop
-seven-requires c κs = tt
+descend-requires : tie.Need-descend-requires Inv-loop μ-loop
+descend-requires c κs = (c .before .before .reach .ensures, search needs)
 
-first-requires : tie.Need-first-requires Inv-loop μ-loop
-first-requires c κs =
-    let a = c .before .before .before .before .before .before .args in
-    omega (arith, c .seven .ensures, fieldAt-lt (now (a .s)) (a .at) 7)
+sub-used : tie.Need-sub-used Inv-loop μ-loop
+sub-used c = search needs
 
-taken-requires : tie.Need-taken-requires Inv-loop μ-loop
-taken-requires c κs = tt
-
-add-place : tie.Need-add-place Inv-loop μ-loop
-add-place c =
-    let a = c .before .before .before .before .before .before .before .before .args in
-    let h : 7 ≤ a .end - a .at = leb-true 7 (a .end - a .at) (sym (c .before .before .before .before .enough .ensures) ∙ c .before .before .before .if1 .taken) in
-    omega (arith, c .taken .ensures, taken-le (c .before .first .result), c .before .before .before .before .before .before .before .before .fits .end)
-
-loop-holds : tie.Need-loop-holds Inv-loop μ-loop
-loop-holds c =
-    let a = c .before .before .before .before .before .args in
-    ⊎-elim
-    (λ w.
-    walking-step (now (a .trees)) (a .table) (now (a .s)) (a .at) (a .end) (c .if1 .place) (c .if1 .link) (w .1 .result)
-    (sym (c .before .enough .ensures) ∙ w .0 .taken) (w .1 .ensures)
-    (w .4 ∙ w .2 .ensures ∙ ap (λ (l : ℕ). first (now (a .trees)) l (w .1 .result)) (c .before .before .start .ensures))
-    (w .5 ∙ ap (λ (n : ℕ). a .at + n) (w .3 .ensures ∙ ap taken (sym (w .4)))))
-    (λ w.
-    walking-begin (now (a .trees)) (a .table) (now (a .s)) (a .at) (a .end) (c .if1 .place) (c .if1 .link)
-    (sym (c .before .enough .ensures) ∙ w .0 .left) (w .2) (w .1 ∙ c .before .before .start .ensures))
-    (c .if1 .came)
-
-leads-on-requires : tie.Need-leads-on-requires Inv-loop μ-loop
-leads-on-requires c κs = tt
+sub-used-2 : tie.Need-sub-used-2 Inv-loop μ-loop
+sub-used-2 c = c .before .descend .ensures .1
 
 returns : tie.Need-returns Inv-loop μ-loop
-returns c = walking-cut _ _ _ _ _ _ _ (c .before .before .before .loop .inv) (leads _ _ (c .before .before .leads-on .ensures) (c .before .if2 .taken)) (c .if3 .taken)
+returns c =
+    lookup-short _ _ _ _ _ _ _ _ (c .before .before .before .before .left .ensures) (along-from _ _ _ _ _ (c .before .before .before .start .ensures) (c .before .before .descend .ensures .0)) (c .if1 .taken)
+
+loop-holds : tie.Need-loop-holds Inv-loop μ-loop
+loop-holds c = (
+  (along-from _ _ _ _ _ (c .before .before .before .start .ensures) (c .before .before .descend .ensures .0)),
+  c .if1 .left,
+  c .before .before .descend .ensures .2,
+)
+
+add-loop : tie.Need-add-loop Inv-loop μ-loop
+add-loop c = omega (arith, c .loop .inv .2)
+
+returns-2 : tie.Need-returns-2 Inv-loop μ-loop
+returns-2 c =
+    lookup-cut _ _ _ _ _ _ _ _ (c .before .before .before .before .before .before .before .left .ensures) (c .before .before .loop .inv .0) (leads _ _ (omega (arith, c .before .before .before .before .before .before .before .before .reach .ensures))) (c .if2 .taken)
+
+add-bit : tie.Need-add-bit Inv-loop μ-loop
+add-bit c = omega (arith, c .before .before .loop .inv .1, c .before .before .before .before .before .before .before .left .ensures, c .before .before .before .before .before .before .before .before .before .before .before .fits .end)
 
 bit-requires : tie.Need-bit-requires Inv-loop μ-loop
 bit-requires c κs = tt
@@ -80,35 +76,33 @@ bit-requires c κs = tt
 one-requires : tie.Need-one-requires Inv-loop μ-loop
 one-requires c κs = tt
 
-add-link : tie.Need-add-link Inv-loop μ-loop
-add-link c = omega (arith, c .one .ensures, one-le (c .before .bit .result), room _ _ (leads _ _ (c .before .before .before .before .before .leads-on .ensures) (c .before .before .before .before .if2 .taken)))
+child-requires : tie.Need-child-requires Inv-loop μ-loop
+child-requires c κs = (omega (arith, c .before .before .before .before .before .before .before .before .before .before .reach .ensures), omega (arith, c .one .ensures, one-le (c .before .bit .result)))
 
-mul-link : tie.Need-mul-link Inv-loop μ-loop
-mul-link c = omega (arith, c .one .ensures, one-le (c .before .bit .result), room _ _ (leads _ _ (c .before .before .before .before .before .leads-on .ensures) (c .before .before .before .before .if2 .taken)))
-
-shared-slice-read-link : tie.Need-shared-slice-read-link Inv-loop μ-loop
-shared-slice-read-link c = omega (arith, c .before .one .ensures, one-le (c .before .before .bit .result), room _ _ (leads _ _ (c .before .before .before .before .before .before .leads-on .ensures) (c .before .before .before .before .before .if2 .taken)))
-
-add-place-2 : tie.Need-add-place-2 Inv-loop μ-loop
-add-place-2 c = omega arith
+add-used : tie.Need-add-used Inv-loop μ-loop
+add-used c = omega (arith, c .before .before .before .before .before .loop .inv .1, c .before .before .before .before .before .before .before .before .before .before .left .ensures, c .before .before .before .before .before .before .before .before .before .before .before .before .before .before .fits .end)
 
 loop-less : tie.Need-loop-less Inv-loop μ-loop
 loop-less c = omega arith
 
 loop-again : tie.Need-loop-again Inv-loop μ-loop
-unfolding child
 loop-again c =
-    rw (c .before .before .one .ensures)
-    (walking-turn _ _ _ _ _ _ _ (c .before .before .before .before .before .before .before .before .loop .inv) (c .before .before .before .bit .result) (c .before .before .before .bit .ensures) (leads _ _ (c .before .before .before .before .before .before .before .leads-on .ensures) (c .before .before .before .before .before .before .if2 .taken)) (c .before .before .before .before .before .if3 .left))
+    let a = c .before .before .before .before .before .before .before .before .before .before .before .before .before .before .args in
+    let w = c .before .before .before .before .before .loop .inv in
+    let n = c .before .before .before .before .before .loop .used in
+    let l = c .before .before .before .before .before .loop .link in
+    let e = c .child .ensures .0 ∙ ap (λ (k : ℕ). getD (now (a .trees)) (l + k) 0) (c .before .one .ensures) ∙ child-is (now (a .trees)) l _ ∙ ap (child (now (a .trees)) l) (c .before .before .bit .ensures) in (
+      subst (Along (now (a .trees)) (start (now (a .trees)) (a .table)) (now (a .s)) (a .at) (n + 1)) (sym e) (along-turn _ _ _ _ _ _ (w .0) (leads _ _ (omega (arith, c .before .before .before .before .before .before .before .before .before .before .before .reach .ensures)))),
+      omega (arith, w .1),
+      c .child .ensures .1,
+    )
 
-cast-t19 : tie.Need-cast-t19 Inv-loop μ-loop
-cast-t19 c = search needs
+cast-t18 : tie.Need-cast-t18 Inv-loop μ-loop
+cast-t18 c = search needs
 
-sub-t20 : tie.Need-sub-t20 Inv-loop μ-loop
-sub-t20 c = omega (arith, c .before .before .before .before .loop .inv .from)
-
-returns-2 : tie.Need-returns-2 Inv-loop μ-loop
-returns-2 c = walking-end _ _ _ _ _ _ _ (c .before .before .before .before .loop .inv) (ends _ _ (c .before .before .before .leads-on .ensures) (c .before .before .if2 .left))
+returns-3 : tie.Need-returns-3 Inv-loop μ-loop
+returns-3 c =
+    lookup-end _ _ _ _ _ _ _ _ (c .before .before .before .before .before .before .left .ensures) (c .before .loop .inv .0) (ends _ _ (omega (arith, c .before .before .before .before .before .before .before .reach .ensures))) (c .before .loop .inv .1)
 
 pub lookup-spec : {M : Type 1} → statement M
 lookup-spec =
@@ -116,23 +110,23 @@ lookup-spec =
     (tie.spec
     Inv-loop
     μ-loop
+    reach-requires
+    left-requires
     start-requires
-    enough-requires
-    seven-requires
-    first-requires
-    taken-requires
-    add-place
-    loop-holds
-    leads-on-requires
+    cast-descend
+    descend-requires
+    sub-used
+    sub-used-2
     returns
+    loop-holds
+    add-loop
+    returns-2
+    add-bit
     bit-requires
     one-requires
-    add-link
-    mul-link
-    shared-slice-read-link
-    add-place-2
+    child-requires
+    add-used
     loop-less
     loop-again
-    cast-t19
-    sub-t20
-    returns-2)
+    cast-t18
+    returns-3)

@@ -4,8 +4,8 @@ use Rattle.bits.proofs.bit.Reads as bit
 use Rattle.bits.proofs.bit.Kinds as bit-kinds
 use Rattle.bits.proofs.field.Reads as field
 use Rattle.bits.proofs.field.Kinds as field-kinds
-use Rattle.bits.proofs.seven.Reads as seven
-use Rattle.bits.proofs.seven.Kinds as seven-kinds
+use Rattle.bits.proofs.left.Reads as left
+use Rattle.bits.proofs.left.Kinds as left-kinds
 
 pub bit-unique : OneAnswer bit-kinds.ps bit-kinds.r bit.Post
 bit-unique κs a x y s t p q = alike p q
@@ -13,5 +13,5 @@ bit-unique κs a x y s t p q = alike p q
 pub field-unique : OneAnswer field-kinds.ps field-kinds.r field.Post
 field-unique κs a x y s t p q = alike p q
 
-pub seven-unique : OneAnswer seven-kinds.ps seven-kinds.r seven.Post
-seven-unique κs a x y s t p q = alike p q
+pub left-unique : OneAnswer left-kinds.ps left-kinds.r left.Post
+left-unique κs a x y s t p q = alike p q

@@ -14,7 +14,7 @@ use Rattle.pairs.proofs.signed.magnitude.Tie as tie
 use Rattle.pairs.proofs.signed.magnitude.Reads as reads
 use Rattle.pairs.proofs.signed.magnitude.Lts as lts
 use Rattle.bits.proofs.field.Reads as field-reads
-use Rattle.pairs.proofs.signed.left.Reads as left-reads
+use Rattle.bits.proofs.left.Reads as left-reads
 use Rattle.codes.proofs.escape_width.Reads as escape-width-reads
 
 returns : tie.Need-returns
