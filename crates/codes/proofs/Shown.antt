@@ -11,11 +11,10 @@ use borrow.Author.Tests.{le-leb, lt-leb, ltb-true, leb-true}
 use lib.Dec.{ltb, leb}
 use lib.ListN.{length, getD, take, drop}
 use lib.Seq.{drop-drop, getD-drop}
-use Rattle.standard.specs.ToldLaws.{never, both-of, picked, passed}
+use Rattle.standard.specs.ToldLaws.{never, both-of, passed}
 use Rattle.standard.specs.Codes.{Entry, decode, lowBits, pair, quad, silent, table1, table2, table3, table5, table6, table7, table8, table9, table10, table11, table12, table13, table15, table16, table24, tableA, tableB, codes, published}
 use Rattle.standard.specs.CodesLaws.{after, inner, lone, more, decode-bit, decode-end, decode-leaf}
-use Rattle.standard.specs.declared.Codeword.{Codeword}
-use Rattle.standard.specs.declared.Codeword.the-variants.{Coded, Cut}
+use Rattle.standard.specs.declared.Codeword.the-variants.{Coded}
 use Rattle.codes.specs.Flat.{trees}
 use Rattle.codes.specs.Walk.{isLeaf, child, walk, start, lookedUp}
 use Rattle.codes.proofs.Walking.{leaf-walk}

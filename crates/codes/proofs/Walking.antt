@@ -75,7 +75,7 @@ used-more u Cut = refl
 used-more u Alien = refl
 
 -- before any bit
-pub along-none : (t : List ℕ) (from : ℕ) (s : List ℕ) (at : ℕ) → Along t from s at 0 from
+along-none : (t : List ℕ) (from : ℕ) (s : List ℕ) (at : ℕ) → Along t from s at 0 from
 along-none t from s at =
     let z : at + 0 ≡ at = omega arith in
     record {
@@ -88,14 +88,14 @@ along-from t s at n link e l = subst (λ (f : ℕ). Along t f s at n link) e l
 
 module _ (t : List ℕ) (from : ℕ) (s : List ℕ) (at n link : ℕ) (l : Along t from s at n link) where
   -- no bit is left for a link that leads on
-  pub along-cut : isLeaf t link ≡ false → walk t from (bits s at n) ≡ Cut
+  along-cut : isLeaf t link ≡ false → walk t from (bits s at n) ≡ Cut
   unfolding walk used bits
   along-cut h =
       let z : n - n ≡ 0 = omega arith in
       l .on n (omega arith) ∙ ap (λ (k : ℕ). used n (walk t link (bits s (at + n) k))) z
       ∙ ap (used n) (passed (Coded (link % 256) 0) h)
 
-  pub along-leaf : isLeaf t link ≡ true → (w : ℕ) → n ≤ w → walk t from (bits s at w) ≡ Coded (link % 256) n
+  along-leaf : isLeaf t link ≡ true → (w : ℕ) → n ≤ w → walk t from (bits s at w) ≡ Coded (link % 256) n
   unfolding used
   along-leaf h w k =
       let z : n + 0 ≡ n = omega arith in

@@ -70,7 +70,7 @@ fn start(trees: &[u16], table: usize) -> u16
     trees[table]
 }
 
-// Links lead on whose second link is within so many entries: from 0x8000 on every link is a leaf.
+// A link leads on whose second link is within so many entries; from 0x8000 on it is a leaf. Told once, so that a step has one test.
 fn reach(trees: &[u16]) -> usize
     ensures { λ r. ⌜ r ≡ min (length (now (trees .entry))) 32769 ⌝ }
 {
@@ -89,7 +89,7 @@ fn child(trees: &[u16], link: usize, bit: usize) -> usize
     trees[link + bit] as usize
 }
 
-// A byte that is there.
+// A byte that is there: not tested for again, as `four` is told that all of its bytes are.
 fn byte(s: &[u8], i: usize) -> u32
     requires { ⌜ i < length (now s) ⌝ }
     ensures { λ r. ⌜ (r ≡ getD (now (s .entry)) i 0) × (r < 256) ⌝ }
@@ -111,8 +111,9 @@ struct Descent {
     left: usize,
 }
 
-// Down a tree by the bits of four bytes from the place `at` on, all but the last, so that no bit is fetched by itself: here a frame's
-// time goes. Where the four bytes are not there, it stays where it is.
+// Down a tree by the bits of four bytes from the place `at` on, so that no bit is fetched by itself: here a frame's time goes. Without
+// the last bit, so that what is left is the next bit's place too, and the loop has one counter. Where the four bytes are not there, it
+// stays where it is.
 fn descend(trees: &[u16], size: usize, from: usize, s: &[u8], at: usize) -> Descent
     requires { ⌜ (size ≡ min (length (now trees)) 32769) × (from < 65536) ⌝ }
     ensures { λ r. ⌜ Along (now (trees .entry)) from (now (s .entry)) at (31 - at % 8 - r .left) (r .link)

@@ -260,7 +260,7 @@ byte-value s i h = upper-part s i h 8 (omega arith) ∙ all-of-it (getD s i 0)
     all-of-it x = omega arith
 
 -- the 24 bits of three bytes
-three-bytes : (s : List ℕ) (i : ℕ) → getD s i 0 < 256 → getD s (i + 1) 0 < 256 → getD s (i + 2) 0 < 256
+pub three-bytes : (s : List ℕ) (i : ℕ) → getD s i 0 < 256 → getD s (i + 1) 0 < 256 → getD s (i + 2) 0 < 256
     → fieldAt s (8 * i) 24 ≡ getD s i 0 * 65536 + getD s (i + 1) 0 * 256 + getD s (i + 2) 0
 unfolding fieldAt
 three-bytes s i h0 h1 h2 =

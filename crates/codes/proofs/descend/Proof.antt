@@ -1,6 +1,5 @@
 -- `codes::descend` meets its contract. The loop's invariant: the walk stands along the bits that are no longer left. The measure is the
 -- bits that are. Assumes nothing.
-use mathlib.Core.Path.{_≡_}
 use Prim.Native.Nat.{_-_, _%_, _<_, _≤_}
 use native.Mathlib.Omega.{arith}
 use borrow.Author.Needs.{needs}
