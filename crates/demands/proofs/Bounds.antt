@@ -15,7 +15,6 @@ use lib.ListN.{length, getD, take, replicate}
 use Rattle.standard.specs.Told.{told}
 use Rattle.standard.specs.ToldLaws.{both-of, both, passed}
 use Rattle.standard.specs.RefusalsLaws.{apart}
-use Rattle.standard.specs.Refusals.{counted}
 use Rattle.standard.specs.Written.{Bytes}
 use Rattle.standard.specs.RowsLaws.{every, every-at, every-append}
 use Rattle.standard.specs.Header.{isHeader}
@@ -41,6 +40,7 @@ use Rattle.standard.specs.declared.Refusal.the-variants.{MissingBits}
 use Rattle.demands.proofs.Calls.{slotSaid, FrameStep, frame, reservoir, numbersAfter, SlotsCall, slotsHeader, slotsInfo, mainData, slotsNumbersAfter, SideInfoCall, MainSizeCall, EmptiedCall}
 use Rattle.demands.proofs.Stored.{unlike, Answered, stored-is, by-said, outcomesOf, slots-answered, each-slot, stepOf, way-of, frame-answered, each-of-frame}
 use Rattle.demands.proofs.Records.{accepted-is}
+use Rattle.standard.specs.declared.SlotOutcome.the-variants.{Read}
 
 -- ---- a slot that was read: how many numbers, and how large each of its 576 is
 pub record Modest (count : ℕ) (part : List ℤ) : Type 0 where
@@ -66,7 +66,7 @@ each-small : (part : List ℤ) → every small part ≡ true → (j : ℕ) → n
 unfolding small
 each-small part e j = leb-true _ _ (every-at small (pos 0) part refl e j)
 
-outcome-modest : (o : Outcome) (k : ℕ) (d : List ℤ) → Small o → slotTold o .said ≡ counted k → Modest k (ownOf o d)
+outcome-modest : (o : Outcome) (k : ℕ) (d : List ℤ) → Small o → slotTold o .outcome ≡ Read k → Modest k (ownOf o d)
 unfolding slotTold ownOf
 outcome-modest (stopped r) k d s e = unlike (cc)
 outcome-modest (holds long short vs) k d s e =
@@ -75,19 +75,19 @@ outcome-modest (holds long short vs) k d s e =
 
 -- of any outcomes that are small
 slot-modest : (os : List Outcome) {answers : List SlotAnswer} {d left : List ℤ} → Answered os answers d left → ((n : ℕ) → Small (getD os n (stopped MissingBits)))
-    → (n k : ℕ) → slotSaid answers n .said ≡ counted k → Modest k (partOf (576 * n) left)
+    → (n k : ℕ) → slotSaid answers n .outcome ≡ Read k → Modest k (partOf (576 * n) left)
 slot-modest os a s n k e =
     let b = by-said os a n e (λ z. unlike (cc)) in
     subst (Modest k) (sym (stored-is os a n (b .0))) (outcome-modest (getD os n (stopped MissingBits)) k _ (s n) (b .1))
 
-pub slots-modest : (c : SlotsCall) (n k : ℕ) → slotSaid (c .answer .slots) n .said ≡ counted k → Modest k (partOf (576 * n) (slotsNumbersAfter c))
+pub slots-modest : (c : SlotsCall) (n k : ℕ) → slotSaid (c .answer .slots) n .outcome ≡ Read k → Modest k (partOf (576 * n) (slotsNumbersAfter c))
 slots-modest c = slot-modest (outcomesOf c) (slots-answered c) (each-slot Small tt c (λ m e. slot-small (slotsHeader c) (slotsInfo c) e (mainData c) m))
 
 -- the same of a frame's slots: side information that was read is such that bytes read to it
 pub entire-known : {s : List ℕ} {h : FrameHeader} {i : SideInfo} → Bytes s → Entire s h i → (isHeader h ≡ true) × (isSide h i ≡ true)
 entire-known {s} {h} {i} b w = let k = header-known s h b (w .header) in (k, side-known h i s k (w .info))
 
-pub frame-modest : (c : FrameStep) → Bytes (frame c) → (n k : ℕ) → slotSaid (c .answer .slots) n .said ≡ counted k → Modest k (partOf (576 * n) (numbersAfter c))
+pub frame-modest : (c : FrameStep) → Bytes (frame c) → (n k : ℕ) → slotSaid (c .answer .slots) n .outcome ≡ Read k → Modest k (partOf (576 * n) (numbersAfter c))
 frame-modest c b = slot-modest (stepOf c .slots) (frame-answered c) (each-of-frame Small tt c (λ m h i bs w. slot-small h i (entire-known b w .1) bs m))
 
 -- ---- slot lengths: where the n-th slot ends, n counted from 1

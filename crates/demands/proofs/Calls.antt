@@ -34,7 +34,6 @@ use Rattle.codes.proofs.trees.trees.Kinds as trees-kinds
 use Rattle.codes.proofs.lookup.Reads as lookup
 use Rattle.codes.proofs.lookup.Kinds as lookup-kinds
 use Rattle.standard.specs.Bits.{window}
-use Rattle.standard.specs.Refusals.{SlotTold, toldSlot}
 use Rattle.standard.specs.SlotsLaws.{lackingAnswer}
 use Rattle.standard.specs.declared.FrameHeader.{FrameHeader}
 use Rattle.standard.specs.declared.SideInfo.{SideInfo}
@@ -44,8 +43,8 @@ use Rattle.standard.specs.declared.Reservoir.{Reservoir}
 use Rattle.demands.proofs.Call.{Call}
 
 -- what the n-th of the slots' answers says; a frame has its slots first, and any other is said to be lacking
-abbrev pub slotSaid : List SlotAnswer → ℕ → SlotTold
-slotSaid slots n = toldSlot (getD slots n lackingAnswer)
+abbrev pub slotSaid : List SlotAnswer → ℕ → SlotAnswer
+slotSaid slots n = getD slots n lackingAnswer
 
 -- ---- process_frame(frame, bytes, reservoir, numbers)
 abbrev pub FrameStep : Type 0

@@ -11,7 +11,7 @@ use lib.Dec.{eqb}
 use lib.IntN.{ℤ}
 use lib.ListN.{length, getD}
 use Rattle.standard.specs.ToldLaws.{never}
-use Rattle.standard.specs.Refusals.{numberOf, refusedBy}
+use Rattle.standard.specs.Refusals.{numberOf}
 use Rattle.standard.specs.Codes.{entry, starts, decode, published}
 use Rattle.standard.specs.CodesLaws.{In, complete, one-reading}
 use Rattle.standard.specs.Slots.{Outcome, stopped, holds, slotTold}
@@ -19,11 +19,12 @@ use Rattle.standard.specs.HaltLaws.{allowed, isOther}
 use Rattle.standard.specs.SlotBounds.{never-alien}
 use Rattle.standard.specs.declared.SlotAnswer.{SlotAnswer}
 use Rattle.standard.specs.declared.Codeword.the-variants.{Coded, Alien}
-use Rattle.standard.specs.declared.Refusal.the-variants.{MissingBits}
+use Rattle.standard.specs.declared.Refusal.the-variants.{MissingBits, NoCodeword}
 use Rattle.codes.specs.Walk.{lookedUp}
 use Rattle.codes.proofs.Shown.{looked-up}
 use Rattle.demands.proofs.Calls.{slotSaid, TreesCall, LookupCall, lookupTrees, lookupTable, lookupBits, SlotsCall, slotsHeader, slotsInfo, mainData, FrameStep}
 use Rattle.demands.proofs.Stored.{unlike, Answered, by-said, outcomesOf, slots-answered, each-slot, stepOf, frame-answered, each-of-frame}
+use Rattle.standard.specs.declared.SlotOutcome.the-variants.{NotRead}
 
 -- ---- a lookup in the trees that `trees` answers
 module _ (t : TreesCall) (c : LookupCall) (lent : lookupTrees c ≡ t .answer) where
@@ -37,13 +38,13 @@ module _ (t : TreesCall) (c : LookupCall) (lent : lookupTrees c ≡ t .answer) w
   read-as v w i s = published-code ∙ one-reading (lookupTable c) v w i (lookupBits c) s
 
 -- ---- no slot is answered 25
-never-said : (o : Outcome) → allowed (isOther 25) o ≡ true → slotTold o .said ≡ refusedBy 25 → ⊥
+never-said : (o : Outcome) → allowed (isOther 25) o ≡ true → slotTold o .outcome ≡ NotRead NoCodeword → ⊥
 unfolding allowed isOther slotTold
 never-said (stopped r) a e = let k : numberOf r ≡ 25 = cc in never (sym (ap (λ (n : ℕ). not (eqb n 25)) k) ∙ a)
 never-said (holds long short vs) a e = unlike (cc)
 
 slot-never : (os : List Outcome) {answers : List SlotAnswer} {d left : List ℤ} → Answered os answers d left
-    → ((n : ℕ) → allowed (isOther 25) (getD os n (stopped MissingBits)) ≡ true) → (n : ℕ) → slotSaid answers n .said ≡ refusedBy 25 → ⊥
+    → ((n : ℕ) → allowed (isOther 25) (getD os n (stopped MissingBits)) ≡ true) → (n : ℕ) → slotSaid answers n .outcome ≡ NotRead NoCodeword → ⊥
 slot-never os a ok n e = never-said (getD os n (stopped MissingBits)) (ok n) (by-said os a n e (λ z. unlike (cc)) .1)
 
 abbrev Codeworded : Outcome → Type 0
@@ -53,9 +54,9 @@ missing-codeworded : Codeworded (stopped MissingBits)
 unfolding allowed isOther
 missing-codeworded = refl
 
-pub slots-never-25 : (c : SlotsCall) (n : ℕ) → slotSaid (c .answer .slots) n .said ≡ refusedBy 25 → ⊥
+pub slots-never-25 : (c : SlotsCall) (n : ℕ) → slotSaid (c .answer .slots) n .outcome ≡ NotRead NoCodeword → ⊥
 slots-never-25 c =
     slot-never (outcomesOf c) (slots-answered c) (each-slot Codeworded missing-codeworded c (λ m e. never-alien (slotsHeader c) (slotsInfo c) (mainData c) m))
 
-pub frame-never-25 : (c : FrameStep) (n : ℕ) → slotSaid (c .answer .slots) n .said ≡ refusedBy 25 → ⊥
+pub frame-never-25 : (c : FrameStep) (n : ℕ) → slotSaid (c .answer .slots) n .outcome ≡ NotRead NoCodeword → ⊥
 frame-never-25 c = slot-never (stepOf c .slots) (frame-answered c) (each-of-frame Codeworded missing-codeworded c (λ m h i bs w. never-alien h i bs m))

@@ -18,7 +18,7 @@ use Rattle.standard.specs.Codes.{escapeWidth}
 use Rattle.standard.specs.Numbers.{pairOf, quadOf, regionsOf}
 use Rattle.standard.specs.Header.{bps as bpsOf, hz as hzOf, isMpeg1, isTwo, isIntensity, headerSize, dataSize, frameLength, sideSize, mainSize, granules as granulesOf, channelCount, headerOf, isHeader}
 use Rattle.standard.specs.Record.{isShort, isRecord, compressWidth, region0Of, region1Of, gainNumber}
-use Rattle.standard.specs.Refusals.{toldHeader, Answers, refuse, toldSlot, numberOf, toldOutcome}
+use Rattle.standard.specs.Refusals.{toldHeader, Answers, numberOf}
 use Rattle.standard.specs.SideInfo.{isSide, sideOf, noSide}
 use Rattle.standard.specs.Factors.{planBits, planOf, longFactors, shortFactors, bandsOf}
 use Rattle.standard.specs.Reservoir.{emptied as nothing, Turned, turnIn}
@@ -190,6 +190,7 @@ use Rattle.front_end.proofs.front_end_reorder.Reads as front-end-reorder
 use Rattle.front_end.proofs.front_end_reorder.Kinds as front-end-reorder-kinds
 use Rattle.front_end.proofs.front_end_sizes.Reads as front-end-sizes
 use Rattle.front_end.proofs.front_end_sizes.Kinds as front-end-sizes-kinds
+use Rattle.standard.specs.Told.{refused}
 
 -- ---- bits
 -- 11172-3, 2.4.1 (bslbf)
@@ -344,8 +345,8 @@ pub read-side-info-is : (c : Call read-side-info-kinds.ps read-side-info-kinds.r
 read-side-info-is c = c .promised
 
 -- no clause: what stands where no side information was read
-pub no-side-is : (c : Call no-side-kinds.ps no-side-kinds.r no-side.Post) → Answers noSide (c .answer .verdict) (c .answer .info) (refuse (c .args .0))
-no-side-is c = c .promised (refuse (c .args .0)) refl
+pub no-side-is : (c : Call no-side-kinds.ps no-side-kinds.r no-side.Post) → Answers noSide (c .answer .verdict) (c .answer .info) (refused (c .args .0))
+no-side-is c = c .promised (refused (c .args .0)) refl
 
 -- ---- scale_factors
 -- 11172-3, 2.4.2.7; 13818-3, 2.4.3.2
@@ -388,7 +389,7 @@ pub read-slots-is : (c : Call read-slots-kinds.ps read-slots-kinds.r read-slots.
 read-slots-is c = c .promised
 
 -- no clause: four slots that a frame lacks
-pub lacking-slots-is : (c : Call lacking-slots-kinds.ps lacking-slots-kinds.r lacking-slots.Post) → map toldSlot (c .answer) ≡ slotsTold []
+pub lacking-slots-is : (c : Call lacking-slots-kinds.ps lacking-slots-kinds.r lacking-slots.Post) → c .answer ≡ slotsTold []
 lacking-slots-is c = c .promised
 
 -- ---- frame
@@ -485,7 +486,7 @@ pub put-end-is : (c : Call put-end-kinds.ps put-end-kinds.r put-end.Post) → Pu
 put-end-is c = c .promised
 
 -- document 01, "Worked from bytes": the output of `slots`
-pub put-slots-is : (c : Call put-slots-kinds.ps put-slots-kinds.r put-slots.Post) → Put (now (c .args .0)) (c .args .1 .0) (slotsText (c .args .1 .1 .0) (toldOutcome ((c .args .1 .1 .1 .0) .outcome)) (toldOutcome ((c .args .1 .1 .1 .1 .0) .outcome)) (toldOutcome ((c .args .1 .1 .1 .1 .1 .0) .outcome)) (toldOutcome ((c .args .1 .1 .1 .1 .1 .1 .0) .outcome)) (now (c .args .1 .1 .1 .1 .1 .1 .1 .0))) (c .answer) (now (c .exit .0))
+pub put-slots-is : (c : Call put-slots-kinds.ps put-slots-kinds.r put-slots.Post) → Put (now (c .args .0)) (c .args .1 .0) (slotsText (c .args .1 .1 .0) ((c .args .1 .1 .1 .0) .outcome) ((c .args .1 .1 .1 .1 .0) .outcome) ((c .args .1 .1 .1 .1 .1 .0) .outcome) ((c .args .1 .1 .1 .1 .1 .1 .0) .outcome) (now (c .args .1 .1 .1 .1 .1 .1 .1 .0))) (c .answer) (now (c .exit .0))
 put-slots-is c = c .promised
 
 -- document 01, "Worked from bytes": the output of `slots`

@@ -13,8 +13,7 @@ use native.Mathlib.Omega.{arith}
 use lib.IntN.{ℤ}
 use lib.ListN.{length}
 use Rattle.standard.specs.Told.{told, toldOr, verdictOf}
-use Rattle.standard.specs.Refusals.{toldVerdict, refusedBy, SlotTold, numberOf}
-use Rattle.standard.specs.RefusalsLaws.{one-number}
+use Rattle.standard.specs.Refusals.{numberOf}
 use Rattle.standard.specs.Header.{isHeader}
 use Rattle.standard.specs.SideInfo.{isSide}
 use Rattle.standard.specs.Slots.{Outcome, stopped, holds, slotsOf, slotTold, lackingSlot, slotsTold, numbersFrom, readSlots}
@@ -26,16 +25,18 @@ use Rattle.standard.specs.declared.SlotAnswer.{SlotAnswer}
 use Rattle.standard.specs.declared.Refusal.the-variants.{MissingBits}
 use Rattle.demands.proofs.Calls.{slotSaid, SlotsCall, slotsHeader, slotsInfo, mainData, slotsNumbers, slotsNumbersAfter}
 use Rattle.demands.proofs.Stored.{unlike, Answered, said-is, stored-is, lacking-said, lacking-stays}
+use Rattle.standard.specs.declared.SlotOutcome.the-variants.{NotRead}
+use Rattle.standard.specs.declared.Verdict.the-variants.{Accepted}
 
 -- 20 is said of a missing slot alone
-missing-said : (o : Outcome) → slotTold o .said ≡ refusedBy 20 → o ≡ stopped MissingBits
+missing-said : (o : Outcome) → slotTold o .outcome ≡ NotRead MissingBits → o ≡ stopped MissingBits
 unfolding slotTold
-missing-said (stopped r) e = let k : numberOf r ≡ 20 = cc in ap stopped (one-number r MissingBits k)
+missing-said (stopped r) e = let k : r ≡ MissingBits = cc in ap stopped k
 missing-said (holds long short vs) e = unlike (cc)
 
-says-missing : (o : Outcome) → o ≡ stopped MissingBits → slotTold o .said ≡ refusedBy 20
+says-missing : (o : Outcome) → o ≡ stopped MissingBits → slotTold o .outcome ≡ NotRead MissingBits
 unfolding slotTold
-says-missing o e = ap (λ (x : Outcome). slotTold x .said) e
+says-missing o e = ap (λ (x : Outcome). slotTold x .outcome) e
 
 -- ---- what a call says and stores, by the definition
 module _ (h : FrameHeader) (i : SideInfo) where
@@ -54,17 +55,17 @@ module _ (h : FrameHeader) (i : SideInfo) where
     other-stored : (n : ℕ) → length (records h i) ≤ n → partOf (576 * n) left ≡ partOf (576 * n) d
     other-stored n l = lacking-stays (slotsOf h i s) f n (omega (arith, length-slots h i s))
 
-    missing : (n : ℕ) → n < length (records h i) → (slotSaid answers n .said ≡ refusedBy 20) ↔ (8 * length s < startOf (suc n) (records h i))
+    missing : (n : ℕ) → n < length (records h i) → (slotSaid answers n .outcome ≡ NotRead MissingBits) ↔ (8 * length s < startOf (suc n) (records h i))
     missing n l =
-        let k = ap (λ (t : SlotTold). t .said) (own-said n l) in
+        let k = ap (λ (t : SlotAnswer). t .outcome) (own-said n l) in
         let m = exactly-missing h i s n l in
         (λ e. m .0 (missing-said (outcomeOf h i s n) (sym k ∙ e)), λ e. k ∙ says-missing (outcomeOf h i s n) (m .1 e))
 
   -- ---- bytes after
   module _ (xs ys : List ℕ) {d left gone : List ℤ} {early late : List SlotAnswer}
-      (f : Answered (slotsOf h i xs) early d left) (g : Answered (slotsOf h i (xs ++ ys)) late d gone) (n : ℕ) (found : slotSaid early n .said ≡ refusedBy 20 → ⊥) where
+      (f : Answered (slotsOf h i xs) early d left) (g : Answered (slotsOf h i (xs ++ ys)) late d gone) (n : ℕ) (found : slotSaid early n .outcome ≡ NotRead MissingBits → ⊥) where
     outcomes : n < length (records h i) → outcomeOf h i (xs ++ ys) n ≡ outcomeOf h i xs n
-    outcomes l = same-outcome h i xs ys n (λ e. found (ap (λ (t : SlotTold). t .said) (own-said xs f n l) ∙ says-missing (outcomeOf h i xs n) e))
+    outcomes l = same-outcome h i xs ys n (λ e. found (ap (λ (t : SlotAnswer). t .outcome) (own-said xs f n l) ∙ says-missing (outcomeOf h i xs n) e))
 
     stays : (slotSaid late n ≡ slotSaid early n) × (partOf (576 * n) gone ≡ partOf (576 * n) left)
     stays =
@@ -93,13 +94,13 @@ module _ (c : SlotsCall) (enough : 2304 ≤ length (slotsNumbers c)) (header : i
   }
 
   -- such a call is accepted
-  pub accepted : toldVerdict (c .answer .verdict) ≡ told tt
+  pub accepted : c .answer .verdict ≡ Accepted
   unfolding verdictOf
   accepted = c .promised .verdict ∙ ap verdictOf (read-call (slotsHeader c) (slotsInfo c) (mainData c) (length (slotsNumbers c)) enough header info)
 
   -- 20 exactly when the lengths up to and including the slot's exceed the bits
   pub exactly-20 : (n : ℕ) → n < length (records (slotsHeader c) (slotsInfo c))
-      → (slotSaid (c .answer .slots) n .said ≡ refusedBy 20) ↔ (8 * length (mainData c) < startOf (suc n) (records (slotsHeader c) (slotsInfo c)))
+      → (slotSaid (c .answer .slots) n .outcome ≡ NotRead MissingBits) ↔ (8 * length (mainData c) < startOf (suc n) (records (slotsHeader c) (slotsInfo c)))
   exactly-20 n l = missing (slotsHeader c) (slotsInfo c) (mainData c) follows n l
 
 -- two calls: from xs, and from xs with ys after it
@@ -116,13 +117,13 @@ module _ (early late : SlotsCall) (ys : List ℕ) (same-header : slotsHeader lat
       }
 
   -- only a slot that was answered 20 may change: its answer with factors and count, and its numbers
-  pub only-20-changes : (n : ℕ) → (slotSaid (early .answer .slots) n .said ≡ refusedBy 20 → ⊥)
+  pub only-20-changes : (n : ℕ) → (slotSaid (early .answer .slots) n .outcome ≡ NotRead MissingBits → ⊥)
       → (slotSaid (late .answer .slots) n ≡ slotSaid (early .answer .slots) n)
       × (partOf (576 * n) (slotsNumbersAfter late) ≡ partOf (576 * n) (slotsNumbersAfter early))
   only-20-changes n found = stays (slotsHeader early) (slotsInfo early) (mainData early) ys (follows early enough header info) late-follows n found
 
   -- and any other answer is the definition's from the whole
-  pub whole-answer : (n : ℕ) → n < length (records (slotsHeader early) (slotsInfo early)) → (slotSaid (early .answer .slots) n .said ≡ refusedBy 20 → ⊥)
+  pub whole-answer : (n : ℕ) → n < length (records (slotsHeader early) (slotsInfo early)) → (slotSaid (early .answer .slots) n .outcome ≡ NotRead MissingBits → ⊥)
       → (slotSaid (early .answer .slots) n ≡ slotTold (outcomeOf (slotsHeader early) (slotsInfo early) (mainData early ++ ys) n))
       × (partOf (576 * n) (slotsNumbersAfter early) ≡ ownOf (outcomeOf (slotsHeader early) (slotsInfo early) (mainData early ++ ys) n) (partOf (576 * n) (slotsNumbers early)))
   whole-answer n l found =

@@ -12,7 +12,6 @@ use lib.IntN.{ℤ, pos}
 use lib.ListN.{length, getD, take, replicate, set, length-replicate}
 use Rattle.standard.specs.Told.{pick, Told, refused, told, toldOr, verdictOf}
 use Rattle.standard.specs.ToldLaws.{passed}
-use Rattle.standard.specs.Refusals.{toldVerdict, lacking, refusedBy, counted, SlotTold}
 use Rattle.standard.specs.RefusalsLaws.{answers-told}
 use Rattle.standard.specs.RowsLaws.{every, every-at}
 use Rattle.standard.specs.Written.{Bytes}
@@ -42,7 +41,7 @@ use Rattle.standard.specs.declared.SampleRate.the-variants.{Hz44100}
 use Rattle.standard.specs.declared.Reservoir.{Reservoir}
 use Rattle.standard.specs.declared.Verdict.{Verdict}
 use Rattle.standard.specs.declared.Verdict.the-variants.{Accepted, Refused}
-use Rattle.standard.specs.declared.Refusal.the-variants.{UnfitMemory, FreeBitrate, ShortReservoir}
+use Rattle.standard.specs.declared.Refusal.the-variants.{UnfitMemory, FreeBitrate, ShortReservoir, MissingBits, PairOverrun}
 use Rattle.codes.specs.Walk.{lookedUp}
 use Rattle.huffman.specs.Slot.{slotNumbers, toldCount, countOf, numbersAfter}
 use Rattle.huffman.specs.declared.HuffmanAnswer.the-variants.{Uncounted}
@@ -53,6 +52,8 @@ use Rattle.front_end.specs.Calls.{rowsAfter, frameStep as stepIn, frameTold, sl
 use Rattle.demands.proofs.Exported.{ExportedFrame, ExportedSlots, ExportedReorder}
 use Rattle.demands.proofs.Bounds.{InTurn}
 use Rattle.demands.proofs.Worked.{Lent, way-known}
+use Rattle.standard.specs.declared.SlotAnswer.{SlotAnswer}
+use Rattle.standard.specs.declared.SlotOutcome.the-variants.{Read, NotRead, Lacking}
 
 -- ---- memory that is lent
 abbrev pub memory : ℕ → List ℕ
@@ -75,7 +76,7 @@ pub comes-to : (s : List ℕ) (x : ℕ) → frameCall s (memory x) 0 (length zer
 comes-to s x = call-fits s (memory x) 0 (length zeros) (bytes-enough x) (omega arith) numbers-enough
 
 -- that call, with the verdict that is computed
-unfoldable pub a-frame : (s : List ℕ) (x : ℕ) (v : Verdict) → toldVerdict v ≡ frameOf s [] .verdict → FrameStep
+unfoldable pub a-frame : (s : List ℕ) (x : ℕ) (v : Verdict) → v ≡ frameOf s [] .verdict → FrameStep
 a-frame s x v e = frameStep s (memory x) none zeros v (e ∙ ap (λ (p : Step). p .verdict) (sym (comes-to s x)))
 
 -- F itself, with either filling of the memory past the reservoir's bytes
@@ -91,21 +92,21 @@ unfolding every
 f-bytes = bytes-of frameF refl
 
 -- ---- Demand 1
-pub frame-refused : (c : FrameStep) × (toldVerdict (c .answer .verdict) ≡ refused 7)
+pub frame-refused : (c : FrameStep) × (c .answer .verdict ≡ Refused FreeBitrate)
 unfolding a-frame frameStep step
 frame-refused = (a-frame (set frameF 2 0x04) 0 (Refused FreeBitrate) refl, refl)
 
-pub frame-short : (c : FrameStep) × (toldVerdict (c .answer .verdict) ≡ refused 13)
+pub frame-short : (c : FrameStep) × (c .answer .verdict ≡ Refused ShortReservoir)
 unfolding a-frame frameStep step
 frame-short = (a-frame (reachingBack 1) 0 (Refused ShortReservoir) refl, refl)
 
 -- a frame with a refused slot, which also lacks the slots of a second channel and granule
-pub slot-refused : (c : FrameStep) × (slotSaid (c .answer .slots) 0 .said ≡ refusedBy 24) × (slotSaid (c .answer .slots) 1 .said ≡ lacking)
+pub slot-refused : (c : FrameStep) × (slotSaid (c .answer .slots) 0 .outcome ≡ NotRead PairOverrun) × (slotSaid (c .answer .slots) 1 .outcome ≡ Lacking)
 unfolding a-frame frameStep step answersOf answerOf
 slot-refused = (
   a-frame (long 2) 0 Accepted refl,
-  ap (λ (p : Step). slotSaid (fourOf (p .slots)) 0 .said) (comes-to (long 2) 0),
-  ap (λ (p : Step). slotSaid (fourOf (p .slots)) 1 .said) (comes-to (long 2) 0),
+  ap (λ (p : Step). slotSaid (fourOf (p .slots)) 0 .outcome) (comes-to (long 2) 0),
+  ap (λ (p : Step). slotSaid (fourOf (p .slots)) 1 .outcome) (comes-to (long 2) 0),
 )
 
 -- ---- slots of F from given main data
@@ -132,7 +133,7 @@ from-said main n = ap (λ (t : Told (List Outcome)). slotSaid (fourOf (toldOr []
 
 -- with the premises of Demand 3 on header, side information and numbers: from nothing the slot is missing, from a byte it is not
 pub slot-missing : (c : SlotsCall) × (2304 ≤ length (slotsNumbers c)) × (isHeader (slotsHeader c) ≡ true) × (isSide (slotsHeader c) (slotsInfo c) ≡ true)
-    × (0 < length (records (slotsHeader c) (slotsInfo c))) × (slotSaid (c .answer .slots) 0 .said ≡ refusedBy 20) × (slotSaid (c .answer .slots) 1 .said ≡ lacking)
+    × (0 < length (records (slotsHeader c) (slotsInfo c))) × (slotSaid (c .answer .slots) 0 .outcome ≡ NotRead MissingBits) × (slotSaid (c .answer .slots) 1 .outcome ≡ Lacking)
 unfolding from-main slotsCall step slotsBy answersOf answerOf
 slot-missing =
     let one : length (records header info) ≡ 1 = refl in (
@@ -141,13 +142,13 @@ slot-missing =
       known .0,
       known .1,
       omega (arith, one),
-      ap (λ (t : SlotTold). t .said) (from-said [] 0),
-      ap (λ (t : SlotTold). t .said) (from-said [] 1),
+      ap (λ (t : SlotAnswer). t .outcome) (from-said [] 0),
+      ap (λ (t : SlotAnswer). t .outcome) (from-said [] 1),
     )
 
 pub early-and-late : (early late : SlotsCall) × (slotsHeader late ≡ slotsHeader early) × (slotsInfo late ≡ slotsInfo early) × (mainData late ≡ mainData early ++ 0x00 ∷ [])
     × (slotsNumbers late ≡ slotsNumbers early) × (2304 ≤ length (slotsNumbers early)) × (isHeader (slotsHeader early) ≡ true)
-    × (isSide (slotsHeader early) (slotsInfo early) ≡ true) × (slotSaid (early .answer .slots) 0 .said ≡ counted 6)
+    × (isSide (slotsHeader early) (slotsInfo early) ≡ true) × (slotSaid (early .answer .slots) 0 .outcome ≡ Read 6)
 unfolding from-main slotsCall step slotsBy answersOf answerOf
 early-and-late = (
   from-main (0x7A ∷ []),
@@ -159,19 +160,19 @@ early-and-late = (
   numbers-enough,
   known .0,
   known .1,
-  ap (λ (t : SlotTold). t .said) (from-said (0x7A ∷ []) 0),
+  ap (λ (t : SlotAnswer). t .outcome) (from-said (0x7A ∷ []) 0),
 )
 
 -- ---- calls that are lent nothing
-pub slots-refused : (c : SlotsCall) × (toldVerdict (c .answer .verdict) ≡ refused 1)
+pub slots-refused : (c : SlotsCall) × (c .answer .verdict ≡ Refused UnfitMemory)
 unfolding slotsCall verdictOf
 slots-refused = (slotsCall header info [] [] (Refused UnfitMemory) (sym (ap verdictOf (slots-laws.few-numbers header info [] 0 (omega arith)))), refl)
 
-pub reorder-refused : (c : ReorderCall) × (toldVerdict (c .answer) ≡ refused 1)
+pub reorder-refused : (c : ReorderCall) × (c .answer ≡ Refused UnfitMemory)
 unfolding reorderCall verdictOf
 reorder-refused = (reorderCall header absent [] (Refused UnfitMemory) (sym (ap verdictOf (reorder-laws.few-numbers header absent [] (omega arith)))), refl)
 
-pub huffman-refused : (c : HuffmanCall) × (toldCount (c .answer) ≡ refused 1)
+pub huffman-refused : (c : HuffmanCall) × (toldCount (c .answer) ≡ refused UnfitMemory)
 unfolding slotNumbers pick countOf numbersAfter
 huffman-refused = (
   record {
@@ -184,7 +185,7 @@ huffman-refused = (
   refl,
 )
 
-pub turn-refused : (c : TurnCall) × (toldVerdict (c .answer .verdict) ≡ refused 1)
+pub turn-refused : (c : TurnCall) × (c .answer .verdict ≡ Refused UnfitMemory)
 unfolding turnCall turnVerdict
 turn-refused = (turnCall [] none 0 [] (Refused UnfitMemory) (sym (ap turnVerdict (few-lent [] 0 0 [] (omega arith)))), refl)
 
@@ -212,7 +213,7 @@ record-checked =
 
 -- ---- Worked and Bounds: memory is lent to any frame as the table asks; F's bytes are bytes, it is accepted, its header and side information are
 -- handed on, and its slot is counted
-pub lent : (s : List ℕ) (x : ℕ) (v : Verdict) (e : toldVerdict v ≡ frameOf s [] .verdict) → Lent (a-frame s x v e) s []
+pub lent : (s : List ℕ) (x : ℕ) (v : Verdict) (e : v ≡ frameOf s [] .verdict) → Lent (a-frame s x v e) s []
 unfolding a-frame frameStep
 lent s x v e = record { frame-is = refl; old-is = refl; bytes-enough = bytes-enough x; stated-fits = omega arith; numbers-enough = numbers-enough }
 
@@ -263,9 +264,9 @@ short-reordered = (
   refl,
 )
 
-pub f-counted : Bytes (frame (f 0)) × (f 0 .answer .verdict ≡ Accepted) × (slotSaid (f 0 .answer .slots) 0 .said ≡ counted 6)
+pub f-counted : Bytes (frame (f 0)) × (f 0 .answer .verdict ≡ Accepted) × (slotSaid (f 0 .answer .slots) 0 .outcome ≡ Read 6)
 unfolding f a-frame frameStep step answersOf answerOf
-f-counted = (f-bytes, refl, ap (λ (p : Step). slotSaid (fourOf (p .slots)) 0 .said) (comes-to frameF 0))
+f-counted = (f-bytes, refl, ap (λ (p : Step). slotSaid (fourOf (p .slots)) 0 .outcome) (comes-to frameF 0))
 
 pub side-accepted : (c : SideInfoCall) × (c .answer .verdict ≡ Accepted)
 unfolding step
@@ -311,7 +312,7 @@ exported-refused = refl
 
 pub exported-short : exported (reachingBack 1) (memory 0) 0 zeros (replicate 252 0) .answer .refusal ≡ 13
 unfolding exported stepIn frameTold step
-exported-short = ap (λ (p : Step). frameTold 0 p .refusal) (passed (noStep 1) refl ∙ comes-to (reachingBack 1) 0)
+exported-short = ap (λ (p : Step). frameTold 0 p .refusal) (passed (noStep UnfitMemory) refl ∙ comes-to (reachingBack 1) 0)
 
 pub exported-slots : (c : ExportedSlots) × (c .answer ≡ 1)
 unfolding slotsStep pick verdictOf toldOr numbersFrom rowsAfter

@@ -27,6 +27,9 @@ use Rattle.front_end.proofs.front_end_slots.Kinds as front-end-slots-kinds
 use Rattle.front_end.proofs.front_end_reorder.Reads as front-end-reorder
 use Rattle.front_end.proofs.front_end_reorder.Kinds as front-end-reorder-kinds
 use Rattle.demands.proofs.Call.{Call}
+use Rattle.standard.specs.RefusalsLaws.{short-only}
+use Rattle.standard.specs.Refusals.{numberOf}
+use Rattle.standard.specs.declared.Refusal.the-variants.{UnfitMemory}
 
 -- ---- front_end_frame(frame, bytes, reservoir, numbers, rows)
 abbrev pub ExportedFrame : Type 0
@@ -34,7 +37,7 @@ ExportedFrame = Call front-end-frame-kinds.ps front-end-frame-kinds.r front-end-
 
 step-way : (s lent : List ℕ) (stated d room : ℕ) → Way s (take stated lent) (frameStep s lent stated d room)
 unfolding frameStep
-step-way s lent stated d room = either-way (Way s (take stated lent)) (ltb room 252) _ _ (λ e. refusedWay 1 (λ z. omega arith) refl) (λ e. call-way s lent stated d)
+step-way s lent stated d room = either-way (Way s (take stated lent)) (ltb room 252) _ _ (λ e. refusedWay UnfitMemory (λ z. let n : _≡_ {A = ℕ} 1 13 = ap numberOf z in omega arith) refl) (λ e. call-way s lent stated d)
 
 module _ {lent left rows now-rows : List ℕ} {stated : ℕ} {d nums : List ℤ} {p : Step} {r : FrameTold} (f : FrameDone lent stated d rows p r left nums now-rows) where
   number : (k : ℕ) → r .refusal ≡ k → frameTold stated p .refusal ≡ k
@@ -57,7 +60,7 @@ module _ {lent left rows now-rows : List ℕ} {stated : ℕ} {d nums : List ℤ}
       → (h : FrameHeader) × (headerOf s ≡ told h) × (left ≡ (old ++ mainOf h s) ++ drop (length (old ++ mainOf h s)) lent)
       × (r .reservoir ≡ length (old ++ mainOf h s)) × (nums ≡ d) × (now-rows ≡ rows)
   unfolding noStep shortStep fullStep bytesKept reservoirAfter numbersFrom rowsAfter frameTold
-  frame-short (refusedWay j n e) v = absurd (n (by-step e 13 v))
+  frame-short (refusedWay j n e) v = absurd (n (short-only j (by-step e 13 v)))
   frame-short (shortWay h i w l e) v = (
     h,
     w .header,

@@ -7,7 +7,7 @@ use lib.IntN.{ℤ}
 use lib.ListN.{length, replicate}
 use denote.Ref.{RefT}
 use Rattle.standard.specs.Told.{verdictOf, toldOr}
-use Rattle.standard.specs.Refusals.{toldVerdict, toldHeader, SlotTold, toldSlot, Answers}
+use Rattle.standard.specs.Refusals.{toldHeader, Answers}
 use Rattle.standard.specs.Header.{headerOf}
 use Rattle.standard.specs.SideInfo.{sideOf, noSide}
 use Rattle.standard.specs.Slots.{Outcome, stopped, holds, slotTold, lackingSlot, slotsTold, numbersFrom, readSlots}
@@ -41,7 +41,7 @@ unfoldable pub answerOf : Outcome → SlotAnswer
 answerOf (stopped r) = record { outcome = NotRead r; long = replicate 22 0; short = replicate 39 0 }
 answerOf (holds long short vs) = record { outcome = Read (length vs); long = long; short = short }
 
-answer-told : (o : Outcome) → toldSlot (answerOf o) ≡ slotTold o
+answer-told : (o : Outcome) → answerOf o ≡ slotTold o
 unfolding answerOf slotTold
 answer-told (stopped r) = refl
 answer-told (holds long short vs) = refl
@@ -50,12 +50,12 @@ unfoldable pub answersOf : List Outcome → ℕ → List SlotAnswer
 answersOf [] n = replicate n lackingAnswer
 answersOf (o ∷ os) n = answerOf o ∷ answersOf os n
 
-lacking-told : (n : ℕ) → map toldSlot (replicate n lackingAnswer) ≡ replicate n lackingSlot
+lacking-told : (n : ℕ) → replicate n lackingAnswer ≡ replicate n lackingSlot
 unfolding lackingSlot
 lacking-told zero = refl
-lacking-told (suc n) = ap (λ (l : List SlotTold). lackingSlot ∷ l) (lacking-told n)
+lacking-told (suc n) = ap (λ (l : List SlotAnswer). lackingSlot ∷ l) (lacking-told n)
 
-answers-told : (os : List Outcome) (n : ℕ) → map toldSlot (answersOf os n) ≡ map slotTold os ++ replicate n lackingSlot
+answers-told : (os : List Outcome) (n : ℕ) → answersOf os n ≡ map slotTold os ++ replicate n lackingSlot
 unfolding answersOf
 answers-told [] n = lacking-told n
 answers-told (o ∷ os) n = λ j. answer-told o j ∷ answers-told os n j
@@ -63,12 +63,12 @@ answers-told (o ∷ os) n = λ j. answer-told o j ∷ answers-told os n j
 abbrev pub fourOf : List Outcome → List SlotAnswer
 fourOf os = answersOf os (4 - length os)
 
-pub four-told : (os : List Outcome) → map toldSlot (fourOf os) ≡ slotsTold os
+pub four-told : (os : List Outcome) → fourOf os ≡ slotsTold os
 unfolding slotsTold
 four-told os = answers-told os (4 - length os)
 
 -- ---- the calls that are lent memory
-unfoldable pub slotsCall : (h : FrameHeader) (i : SideInfo) (s : List ℕ) (d : List ℤ) (v : Verdict) → toldVerdict v ≡ verdictOf (readSlots h i s (length d)) → SlotsCall
+unfoldable pub slotsCall : (h : FrameHeader) (i : SideInfo) (s : List ℕ) (d : List ℤ) (v : Verdict) → v ≡ verdictOf (readSlots h i s (length d)) → SlotsCall
 slotsCall h i s d v e =
     let os = toldOr [] (readSlots h i s (length d)) in
     record {
@@ -79,7 +79,7 @@ slotsCall h i s d v e =
       promised = record { verdict = e; slots = four-told os; numbers = refl };
     }
 
-unfoldable pub frameStep : (s lent : List ℕ) (old : Reservoir) (d : List ℤ) (v : Verdict) → toldVerdict v ≡ frameCall s lent (old .length) (length d) .verdict → FrameStep
+unfoldable pub frameStep : (s lent : List ℕ) (old : Reservoir) (d : List ℤ) (v : Verdict) → v ≡ frameCall s lent (old .length) (length d) .verdict → FrameStep
 frameStep s lent old d v e =
     let p = frameCall s lent (old .length) (length d) in
     record {
@@ -100,7 +100,7 @@ frameStep s lent old d v e =
           };
     }
 
-unfoldable pub reorderCall : (h : FrameHeader) (r : SlotRecord) (d : List ℤ) (v : Verdict) → toldVerdict v ≡ verdictOf (reorderOf h r d) → ReorderCall
+unfoldable pub reorderCall : (h : FrameHeader) (r : SlotRecord) (d : List ℤ) (v : Verdict) → v ≡ verdictOf (reorderOf h r d) → ReorderCall
 reorderCall h r d v e =
     record {
       lifetimes = ([], tt);
@@ -111,7 +111,7 @@ reorderCall h r d v e =
     }
 
 unfoldable pub turnCall : (lent : List ℕ) (old : Reservoir) (begin : ℕ) (main : List ℕ) (v : Verdict)
-    → toldVerdict v ≡ turnVerdict (turnIn lent (old .length) begin main) → TurnCall
+    → v ≡ turnVerdict (turnIn lent (old .length) begin main) → TurnCall
 turnCall lent old begin main v e =
     let t = turnIn lent (old .length) begin main in
     record {

@@ -11,8 +11,8 @@ use Prim.Native.Nat.{ℕ, _*_, _<_}
 use lib.ListN.{getD}
 use denote.Ref.{now}
 use Rattle.standard.specs.Told.{Told, refused, told, toldOr, verdictOf}
-use Rattle.standard.specs.Refusals.{toldVerdict, toldHeader, Answers}
-use Rattle.standard.specs.RefusalsLaws.{apart, answers-told}
+use Rattle.standard.specs.Refusals.{toldHeader, Answers}
+use Rattle.standard.specs.RefusalsLaws.{unlike, answers-told}
 use Rattle.standard.specs.Written.{Bytes}
 use Rattle.standard.specs.Header.{headerOf, isHeader, granules, channelCount}
 use Rattle.standard.specs.HeaderBytes.{header-read, header-known}
@@ -30,10 +30,10 @@ use Rattle.demands.proofs.Made.{headerCall, sideInfoCall}
 -- what an accepted answer was told
 pub accepted-is : {A : Type 0} {blank a : A} {v : Verdict} {t : Told A} → Answers blank v a t → v ≡ Accepted → t ≡ told a
 unfolding verdictOf toldOr
-accepted-is {A} {blank} {a} {v} {t} f e = go t (sym (ap toldVerdict e) ∙ f .verdict) (f .value)
+accepted-is {A} {blank} {a} {v} {t} f e = go t (sym e ∙ f .verdict) (f .value)
   where
-    go : (t : Told A) → told tt ≡ verdictOf t → a ≡ toldOr blank t → t ≡ told a
-    go (refused k) g n = apart (sym g)
+    go : (t : Told A) → Accepted ≡ verdictOf t → a ≡ toldOr blank t → t ≡ told a
+    go (refused k) g n = unlike (sym g)
     go (told x) g n = ap told (sym n)
 
 -- ---- a call of read_frame_header on bytes that answers this header

@@ -9,9 +9,8 @@ use native.Mathlib.Omega.{arith}
 use lib.IntN.{ℤ}
 use lib.ListN.{length, getD, take, drop}
 use lib.Seq.{drop-drop}
-use Rattle.standard.specs.Told.{Told, toldOr}
+use Rattle.standard.specs.Told.{Told, toldOr, refused}
 use Rattle.standard.specs.ToldLaws.{both-of}
-use Rattle.standard.specs.Refusals.{SlotSaid, lacking, refusedBy, SlotTold, toldSlot}
 use Rattle.standard.specs.Slots.{Outcome, stopped, holds, slotTold, lackingSlot, slotsTold, numbersFrom, readSlots}
 use Rattle.standard.specs.SlotsLaws.{told-at, lacking-at, partOf, ownOf, own-numbers, past-slots, outcomeOf, few-numbers, made-up-call, read-call}
 use Rattle.standard.specs.SlotBounds.{read-room}
@@ -24,25 +23,28 @@ use Rattle.standard.specs.declared.SideInfo.{SideInfo}
 use Rattle.standard.specs.declared.SlotAnswer.{SlotAnswer}
 use Rattle.standard.specs.declared.Refusal.the-variants.{MissingBits}
 use Rattle.demands.proofs.Calls.{slotSaid, FrameStep, frame, bytes, reservoir, numbers, numbersAfter, SlotsCall, slotsHeader, slotsInfo, mainData, slotsNumbers, slotsNumbersAfter}
+use Rattle.standard.specs.declared.SlotOutcome.{SlotOutcome}
+use Rattle.standard.specs.declared.SlotOutcome.the-variants.{NotRead, Lacking}
+use Rattle.standard.specs.declared.Refusal.{Refusal}
 
 -- two constructors are not the same
 pub unlike : {A : Type 0} → _≡_ {A = ℕ} 0 1 → A
 unlike z = let w : ⊥ = omega arith in absurd w
 
 -- a slot that is said to be refused left what stood there
-refused-own : (o : Outcome) (k : ℕ) (d : List ℤ) → slotTold o .said ≡ refusedBy k → ownOf o d ≡ d
+refused-own : (o : Outcome) (k : Refusal) (d : List ℤ) → slotTold o .outcome ≡ NotRead k → ownOf o d ≡ d
 unfolding ownOf slotTold
 refused-own (stopped r) k d e = refl
 refused-own (holds long short vs) k d e = unlike (cc)
 
-not-lacking : (o : Outcome) → slotTold o .said ≡ lacking → ⊥
+not-lacking : (o : Outcome) → slotTold o .outcome ≡ Lacking → ⊥
 unfolding slotTold
 not-lacking (stopped r) e = unlike (cc)
 not-lacking (holds long short vs) e = unlike (cc)
 
 -- outcomes answered, and their numbers stored in lent ones that have room for them
 pub record Answered (os : List Outcome) (answers : List SlotAnswer) (d left : List ℤ) : Type 0 where
-  pub says : map toldSlot answers ≡ slotsTold os
+  pub says : answers ≡ slotsTold os
   pub stored : left ≡ numbersFrom 0 os d
   pub room : 576 * length os ≤ length d
 
@@ -68,23 +70,23 @@ module _ (os : List Outcome) {answers : List SlotAnswer} {d left : List ℤ} (a 
       ∙ ap (λ (m : ℕ). take 576 (drop m d)) e
 
   -- what is said decides: lacking, or by the slot's own outcome
-  pub by-said : (n : ℕ) {x : SlotSaid} → slotSaid answers n .said ≡ x → (x ≡ lacking → ⊥) → (n < length os) × (slotTold (getD os n (stopped MissingBits)) .said ≡ x)
+  pub by-said : (n : ℕ) {x : SlotOutcome} → slotSaid answers n .outcome ≡ x → (x ≡ Lacking → ⊥) → (n < length os) × (slotTold (getD os n (stopped MissingBits)) .outcome ≡ x)
   unfolding lackingSlot
   by-said n e f =
       elim (decLt n (length os)) [
-        | yes l ↦ (l, sym (ap (λ (t : SlotTold). t .said) (said-is n l)) ∙ e)
-        | no l ↦ absurd (f (sym e ∙ ap (λ (t : SlotTold). t .said) (lacking-said n (omega arith))))
+        | yes l ↦ (l, sym (ap (λ (t : SlotAnswer). t .outcome) (said-is n l)) ∙ e)
+        | no l ↦ absurd (f (sym e ∙ ap (λ (t : SlotAnswer). t .outcome) (lacking-said n (omega arith))))
       ]
 
-  pub refused-stays : (n k : ℕ) → slotSaid answers n .said ≡ refusedBy k → partOf (576 * n) left ≡ partOf (576 * n) d
+  pub refused-stays : (n : ℕ) (k : Refusal) → slotSaid answers n .outcome ≡ NotRead k → partOf (576 * n) left ≡ partOf (576 * n) d
   refused-stays n k e =
       let b = by-said n e (λ z. unlike (cc)) in
       stored-is n (b .0) ∙ refused-own (getD os n (stopped MissingBits)) k (partOf (576 * n) d) (b .1)
 
-  pub said-lacking : (n : ℕ) → slotSaid answers n .said ≡ lacking → partOf (576 * n) left ≡ partOf (576 * n) d
+  pub said-lacking : (n : ℕ) → slotSaid answers n .outcome ≡ Lacking → partOf (576 * n) left ≡ partOf (576 * n) d
   said-lacking n e =
       elim (decLt n (length os)) [
-        | yes l ↦ absurd (not-lacking (getD os n (stopped MissingBits)) (sym (ap (λ (t : SlotTold). t .said) (said-is n l)) ∙ e))
+        | yes l ↦ absurd (not-lacking (getD os n (stopped MissingBits)) (sym (ap (λ (t : SlotAnswer). t .outcome) (said-is n l)) ∙ e))
         | no l ↦ lacking-stays n (omega arith)
       ]
 

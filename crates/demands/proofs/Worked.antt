@@ -8,8 +8,7 @@ use lib.IntN.{ℤ}
 use lib.ListN.{length, take, drop}
 use lib.Seq.{take-at}
 use Rattle.standard.specs.Told.{Told, told, toldOr, verdictOf}
-use Rattle.standard.specs.RefusalsLaws.{apart}
-use Rattle.standard.specs.Refusals.{toldVerdict, toldSlot}
+use Rattle.standard.specs.RefusalsLaws.{unlike}
 use Rattle.standard.specs.Written.{Bytes}
 use Rattle.standard.specs.Header.{isMpeg1, isHeader}
 use Rattle.standard.specs.SideInfo.{isSide}
@@ -27,6 +26,7 @@ use Rattle.standard.specs.declared.SampleRate.{SampleRate}
 use Rattle.standard.specs.declared.Verdict.the-variants.{Accepted}
 use Rattle.demands.proofs.Calls.{FrameStep, frame, bytes, reservoir, numbers, bytesAfter, numbersAfter, SlotsCall, slotsHeader, slotsInfo, mainData, slotsNumbers, slotsNumbersAfter, ReorderCall, reorderHeader, reorderRecord, reorderNumbers, reorderNumbersAfter}
 use Rattle.demands.proofs.Bounds.{entire-known}
+use Rattle.standard.specs.declared.Verdict.{Verdict}
 
 -- memory that a frame's call takes, with the reservoir's bytes
 pub record Lent (c : FrameStep) (s old : List ℕ) : Type 0 where
@@ -40,16 +40,16 @@ pub record Lent (c : FrameStep) (s old : List ℕ) : Type 0 where
 abbrev pub Promised : Row → Type 0
 Promised (ofFrame s old v os k) =
     (c : FrameStep) → Lent c s old
-    → (toldVerdict (c .answer .verdict) ≡ v) × (map toldSlot (c .answer .slots) ≡ slotsTold os) × (numbersAfter c ≡ numbersFrom 0 os (numbers c))
+    → (c .answer .verdict ≡ v) × (c .answer .slots ≡ slotsTold os) × (numbersAfter c ≡ numbersFrom 0 os (numbers c))
     × (bytesAfter c ≡ bytesKept (bytes c) k) × (c .answer .reservoir ≡ reservoirAfter (reservoir c) k)
 Promised (ofMain s main os) =
     (b : FrameStep) → Lent b s [] → Bytes s → b .answer .verdict ≡ Accepted → (c : SlotsCall) → slotsHeader c ≡ b .answer .header → slotsInfo c ≡ b .answer .info
     → mainData c ≡ main → 2304 ≤ length (slotsNumbers c)
-    → (toldVerdict (c .answer .verdict) ≡ told tt) × (map toldSlot (c .answer .slots) ≡ slotsTold os) × (slotsNumbersAfter c ≡ numbersFrom 0 os (slotsNumbers c))
+    → (c .answer .verdict ≡ Accepted) × (c .answer .slots ≡ slotsTold os) × (slotsNumbersAfter c ≡ numbersFrom 0 os (slotsNumbers c))
 Promised (ofOrder rate before after) =
     (c : ReorderCall) → isHeader (reorderHeader c) ≡ true → reorderHeader c .rate ≡ rate → isRecord (isMpeg1 (reorderHeader c .version)) (reorderRecord c) ≡ true
     → isShort (reorderRecord c .block) ≡ true → 576 ≤ length (reorderNumbers c) → (rest : List ℤ) → take 576 (reorderNumbers c) ≡ before ++ rest
-    → (toldVerdict (c .answer) ≡ told tt) × (take (length after) (take 576 (reorderNumbersAfter c)) ≡ after)
+    → (c .answer ≡ Accepted) × (take (length after) (take 576 (reorderNumbersAfter c)) ≡ after)
 
 -- ---- a frame
 step-is : (c : FrameStep) (s old : List ℕ) → Lent c s old → frameCall (frame c) (bytes c) (reservoir c .length) (length (numbers c)) ≡ step s old
@@ -58,7 +58,7 @@ step-is c s old l =
     call-fits (frame c) (bytes c) (reservoir c .length) (length (numbers c)) (l .bytes-enough) (l .stated-fits) (l .numbers-enough)
     ∙ (λ j. frameOf (l .frame-is j) (l .old-is j))
 
-frame-so : (s old : List ℕ) (v : Told (Unit {0})) (os : List Outcome) (k : Kept) → IsSo (ofFrame s old v os k) → Promised (ofFrame s old v os k)
+frame-so : (s old : List ℕ) (v : Verdict) (os : List Outcome) (k : Kept) → IsSo (ofFrame s old v os k) → Promised (ofFrame s old v os k)
 frame-so s old v os k so c l =
     let e = step-is c s old l in (
       c .promised .verdict ∙ ap (λ (p : Step). p .verdict) e ∙ so .0,
@@ -69,10 +69,10 @@ frame-so s old v os k so c l =
     )
 
 -- ---- slots from other main data: header and side information of a frame that was accepted are such that bytes read to them
-pub way-known : {s old : List ℕ} {p : Step} → Bytes s → Way s old p → p .verdict ≡ told tt → (isHeader (p .header) ≡ true) × (isSide (p .header) (p .info) ≡ true)
+pub way-known : {s old : List ℕ} {p : Step} → Bytes s → Way s old p → p .verdict ≡ Accepted → (isHeader (p .header) ≡ true) × (isSide (p .header) (p .info) ≡ true)
 unfolding noStep shortStep fullStep
-way-known b (refusedWay k m e) v = apart (sym (ap (λ (x : Step). x .verdict) e) ∙ v)
-way-known b (shortWay h i w l e) v = apart (sym (ap (λ (x : Step). x .verdict) e) ∙ v)
+way-known b (refusedWay k m e) v = unlike (sym (ap (λ (x : Step). x .verdict) e) ∙ v)
+way-known b (shortWay h i w l e) v = unlike (sym (ap (λ (x : Step). x .verdict) e) ∙ v)
 way-known b (fullWay h i w l e) v =
     let k = entire-known b w in
     (ap (λ (x : Step). isHeader (x .header)) e ∙ k .0, ap (λ (x : Step). isSide (x .header) (x .info)) e ∙ k .1)
@@ -81,7 +81,7 @@ main-so : (s main : List ℕ) (os : List Outcome) → IsSo (ofMain s main os) �
 unfolding step slotsBy verdictOf toldOr
 main-so s main os so b l bs v c same-header same-info same-main enough =
     let e = step-is b s [] l in
-    let known = way-known bs (way s []) (sym (b .promised .verdict ∙ ap (λ (p : Step). p .verdict) e) ∙ ap toldVerdict v) in
+    let known = way-known bs (way s []) (sym (b .promised .verdict ∙ ap (λ (p : Step). p .verdict) e) ∙ v) in
     let h = same-header ∙ b .promised .header ∙ ap (λ (p : Step). p .header) e in
     let i = same-info ∙ b .promised .info ∙ ap (λ (p : Step). p .info) e in
     let t = (λ j. readSlots (h j) (i j) (same-main j) (length (slotsNumbers c)))

@@ -8,7 +8,6 @@ use lib.IntN.{ℤ}
 use lib.ListN.{length, take, drop, length-drop}
 use lib.Seq.{length-take-le}
 use Rattle.standard.specs.Told.{Told, refused, told, pick}
-use Rattle.standard.specs.Refusals.{refuse}
 use Rattle.standard.specs.RefusalsLaws.{apart}
 use Rattle.standard.specs.Header.{isMpeg1, isTwo, isHeader, headerOf, headerSize, sideSize, mainSize, frameLength, dataSize}
 use Rattle.standard.specs.HeaderLaws.{main-and-side, reservoir-le}
@@ -24,7 +23,7 @@ use Rattle.standard.specs.declared.ReservoirAnswer.{ReservoirAnswer}
 use Rattle.standard.specs.declared.FrameAnswer.{FrameAnswer}
 use Rattle.standard.specs.declared.Refusal.the-variants.{MadeUpRecord}
 
-asked : {A : Type 0} (x : Told A) {a : A} (b : Bool) → pick b x (refuse MadeUpRecord) ≡ told a → b ≡ true
+asked : {A : Type 0} (x : Told A) {a : A} (b : Bool) → pick b x (refused MadeUpRecord) ≡ told a → b ≡ true
 unfolding pick
 asked x true e = refl
 asked x false e = apart e

@@ -27,7 +27,6 @@ ghost use mathlib.Core.List.{[], map};
 ghost use Prim.Native.Nat.{_≤_};
 ghost use lib.ListN.{length, take};
 ghost use Rattle.standard.specs.Told.{told};
-ghost use Rattle.standard.specs.Refusals.{toldSlot};
 ghost use Rattle.standard.specs.Header.{headerOf, mainSize, noHeader, isHeader};
 ghost use Rattle.standard.specs.SideInfo.{noSide, isSide};
 ghost use Rattle.standard.specs.Slots.{slotsTold};
@@ -59,7 +58,7 @@ fn no_header() -> FrameHeader
 
 // A refused frame tells nothing, and the reservoir stays.
 fn refused(reason: Refusal, reservoir: Reservoir) -> FrameAnswer
-    ensures { λ r. ⌜ (r .verdict ≡ Verdict.Refused reason) × (r .header ≡ noHeader) × (r .info ≡ noSide) × (r .length ≡ 0) × (map toldSlot (r .slots) ≡ slotsTold []) × (r .reservoir ≡ reservoir) ⌝ }
+    ensures { λ r. ⌜ (r .verdict ≡ Verdict.Refused reason) × (r .header ≡ noHeader) × (r .info ≡ noSide) × (r .length ≡ 0) × (r .slots ≡ slotsTold []) × (r .reservoir ≡ reservoir) ⌝ }
 {
     let header = no_header();
     let a = no_side(reason);

@@ -11,7 +11,7 @@ use lib.ListN.{length, getD, take, drop, set, length-set, length-append, length-
 use lib.Seq.{paste, length-paste, take-append-le, drop-cons, drop-at}
 use Rattle.standard.specs.Told.{Told, refused, told, verdictOf, toldOr}
 use Rattle.standard.specs.ToldLaws.{picked, passed}
-use Rattle.standard.specs.Refusals.{numberOf, refuse, toldVerdict, toldSlot, SlotTold, Answers}
+use Rattle.standard.specs.Refusals.{numberOf, Answers}
 use Rattle.standard.specs.CopyLaws.{copying-begin, copying-turn, paste-next}
 use Rattle.standard.specs.declared.SlotAnswer.{SlotAnswer}
 use Rattle.standard.specs.declared.FrameHeader.{FrameHeader}
@@ -33,12 +33,12 @@ use Rattle.front_end.specs.Calls.{numberTold, saidNumber, saidCount, slo
 
 -- ---- rows
 -- a row written in its four pieces
-module _ (d : List ℕ) (at : ℕ) (t : SlotTold) (long : length (t .long) ≡ 22) (short : length (t .short) ≡ 39) (room : at + 63 ≤ length d) where
+module _ (d : List ℕ) (at : ℕ) (t : SlotAnswer) (long : length (t .long) ≡ 22) (short : length (t .short) ≡ 39) (room : at + 63 ≤ length d) where
   row-length : length (slotRow t) ≡ 63
   unfolding slotRow
   row-length = simp length-append (omega (arith, long, short))
 
-  row-two : {x y : ℕ} → x ≡ saidNumber (t .said) → y ≡ saidCount (t .said) → set (set d at x) (at + 1) y ≡ paste d at (slotRow t) 2
+  row-two : {x y : ℕ} → x ≡ saidNumber (t .outcome) → y ≡ saidCount (t .outcome) → set (set d at x) (at + 1) y ≡ paste d at (slotRow t) 2
   unfolding slotRow
   row-two {x} {y} p q =
       let o : at ≡ at + 0 = omega arith in
@@ -53,7 +53,7 @@ module _ (d : List ℕ) (at : ℕ) (t : SlotTold) (long : length (t .long) ≡ 2
   row-short =
       paste-next (slotRow t) d (t .short) at 24 39 (omega arith) (omega (arith, row-length)) (ap (take 39) (sym (drop-at (t .long) (t .short) 22 long)))
 
-  pub row-put : {x y : ℕ} → x ≡ saidNumber (t .said) → y ≡ saidCount (t .said)
+  pub row-put : {x y : ℕ} → x ≡ saidNumber (t .outcome) → y ≡ saidCount (t .outcome)
       → paste (paste (set (set d at x) (at + 1) y) (at + 2) (t .long) (length (t .long))) (at + 24) (t .short) (length (t .short)) ≡ paste d at (slotRow t) 63
   row-put p q =
       (λ j. paste (paste (row-two p q j) (at + 2) (t .long) (long j)) (at + 24) (t .short) (short j))
@@ -76,25 +76,19 @@ module _ (d : List ℕ) (at x y : ℕ) (long : List ℕ) (l : length long ≡ 22
 -- slots in turn
 -- the k-th row is written, and those after it remain
 pub rows-turn : (slots : List SlotAnswer) (d e : List ℕ) (k : ℕ) (z : SlotAnswer) → length slots ≡ 4 → k < 4
-    → rowsFrom (63 * k) (drop k (map toldSlot slots)) d ≡ e
-    → rowsFrom (63 * (k + 1)) (drop (k + 1) (map toldSlot slots)) (paste d (63 * k) (slotRow (toldSlot (getD slots k z))) 63) ≡ e
+    → rowsFrom (63 * k) (drop k slots) d ≡ e
+    → rowsFrom (63 * (k + 1)) (drop (k + 1) slots) (paste d (63 * k) (slotRow (getD slots k z)) 63) ≡ e
 unfolding rowsFrom
 rows-turn slots d e k z l h w =
     let a : 63 * (k + 1) ≡ 63 * k + 63 = omega arith in
     let b : k + 1 ≡ suc k = omega arith in
-    (λ j. rowsFrom (a j) (drop (b j) (map toldSlot slots)) (paste d (63 * k) (slotRow (toldSlot (getD slots k z))) 63))
-    ∙ sym (ap (λ (x : List SlotTold). rowsFrom (63 * k) x d) next) ∙ w
-  where
-    next : drop k (map toldSlot slots) ≡ toldSlot (getD slots k z) ∷ drop (suc k) (map toldSlot slots)
-    next =
-        let n = length-map slots toldSlot in
-        drop-cons (map toldSlot slots) k (toldSlot z) (omega (arith, n, l, h)) ∙ ap (λ (t : SlotTold). t ∷ drop (suc k) (map toldSlot slots)) (List·getD-map toldSlot slots k z)
+    (λ j. rowsFrom (a j) (drop (b j) slots) (paste d (63 * k) (slotRow (getD slots k z)) 63))
+    ∙ sym (ap (λ (x : List SlotAnswer). rowsFrom (63 * k) x d) (drop-cons slots k z (omega arith))) ∙ w
 
-pub rows-end : (slots : List SlotAnswer) (d e : List ℕ) (k : ℕ) → length slots ≡ 4 → 4 ≤ k → rowsFrom (63 * k) (drop k (map toldSlot slots)) d ≡ e → d ≡ e
+pub rows-end : (slots : List SlotAnswer) (d e : List ℕ) (k : ℕ) → length slots ≡ 4 → 4 ≤ k → rowsFrom (63 * k) (drop k slots) d ≡ e → d ≡ e
 unfolding rowsFrom
 rows-end slots d e k l h w =
-    let n = length-map slots toldSlot in
-    sym (ap (λ (x : List SlotTold). rowsFrom (63 * k) x d) (drop-of-length-le (map toldSlot slots) {i = k} (omega (arith, n, l, h)))) ∙ w
+    sym (ap (λ (x : List SlotAnswer). rowsFrom (63 * k) x d) (drop-of-length-le slots {i = k} (omega arith))) ∙ w
 
 -- ---- a frame's header and side information, read before the rest
 -- at most four slots, by the sizes at hand
@@ -102,12 +96,12 @@ pub four-slots : (h : FrameHeader) {g n : ℕ} → g ≡ granules h → n ≡ ch
 four-slots h e f = subst (λ (x : ℕ). x ≤ 4) (sym (λ j. e j * f j)) (four-at-most h)
 
 module _ {B : Type 0} (s : List ℕ) (f : FrameHeader → SideInfo → Told B) where
-  pub under-no-header : {k : ℕ} → headerOf s ≡ refused k → under s f ≡ refused k
+  pub under-no-header : {k : Refusal} → headerOf s ≡ refused k → under s f ≡ refused k
   unfolding under following
   under-no-header e = ap (λ (x : Told FrameHeader). following x (λ (h : FrameHeader). following (sideOf h s) (f h))) e
 
   module _ {h : FrameHeader} (e : headerOf s ≡ told h) where
-    pub under-no-side : {k : ℕ} → sideOf h s ≡ refused k → under s f ≡ refused k
+    pub under-no-side : {k : Refusal} → sideOf h s ≡ refused k → under s f ≡ refused k
     unfolding under following
     under-no-side g =
         ap (λ (x : Told FrameHeader). following x (λ (y : FrameHeader). following (sideOf y s) (f y))) e ∙ ap (λ (x : Told SideInfo). following x (f h)) g
@@ -118,21 +112,21 @@ module _ {B : Type 0} (s : List ℕ) (f : FrameHeader → SideInfo → Told B) w
         ap (λ (x : Told FrameHeader). following x (λ (y : FrameHeader). following (sideOf y s) (f y))) e ∙ ap (λ (x : Told SideInfo). following x (f h)) g
 
 -- ---- the calls
-pub reorder-refused : {d left : List ℤ} {t : Told (List ℤ)} {r : ℕ} (why : Refusal) → t ≡ refuse why → r ≡ numberOf why → left ≡ d → ReorderDone d t r left
+pub reorder-refused : {d left : List ℤ} {t : Told (List ℤ)} {r : ℕ} (why : Refusal) → t ≡ refused why → r ≡ numberOf why → left ≡ d → ReorderDone d t r left
 unfolding verdictOf toldOr
 reorder-refused {d} why e n l = record {
   answer = n ∙ sym (ap (λ (x : Told (List ℤ)). numberTold (verdictOf x)) e);
   numbers-are = l ∙ sym (ap (toldOr d) e);
 }
 
-pub reorder-done : {d left : List ℤ} {t u : Told (List ℤ)} {v : Verdict} {r : ℕ} → u ≡ t → Answers d v left t → r ≡ numberTold (toldVerdict v) → ReorderDone d u r left
+pub reorder-done : {d left : List ℤ} {t u : Told (List ℤ)} {v : Verdict} {r : ℕ} → u ≡ t → Answers d v left t → r ≡ numberTold v → ReorderDone d u r left
 reorder-done {d} e a n = record {
   answer = n ∙ ap numberTold (a .verdict) ∙ sym (ap (λ (x : Told (List ℤ)). numberTold (verdictOf x)) e);
   numbers-are = a .value ∙ sym (ap (toldOr d) e);
 }
 
 module _ (s : List ℕ) (n : ℕ) (d : List ℤ) where
-  pub reorder-few : length d < 576 → reorderStep s n d ≡ refuse UnfitMemory
+  pub reorder-few : length d < 576 → reorderStep s n d ≡ refused UnfitMemory
   unfolding reorderStep
   reorder-few h = picked _ (lt-ltb (length d) 576 h)
 
@@ -144,12 +138,12 @@ module _ (s : List ℕ) (n : ℕ) (d : List ℤ) where
   unfolding reorderBy
   reorder-there h i l = picked _ (lt-ltb n (granules h * channelCount h) l)
 
-  pub reorder-lacking : (h : FrameHeader) (i : SideInfo) → granules h * channelCount h ≤ n → reorderBy h i n d ≡ refuse MadeUpRecord
+  pub reorder-lacking : (h : FrameHeader) (i : SideInfo) → granules h * channelCount h ≤ n → reorderBy h i n d ≡ refused MadeUpRecord
   unfolding reorderBy
   reorder-lacking h i l = passed _ (le-ltb n (granules h * channelCount h) l)
 
 -- the slots from given main data
-pub slots-refused : {d numbers : List ℤ} {rows left : List ℕ} {t : Told (List Outcome)} {r : ℕ} (why : Refusal) → t ≡ refuse why → r ≡ numberOf why → numbers ≡ d → left ≡ rows
+pub slots-refused : {d numbers : List ℤ} {rows left : List ℕ} {t : Told (List Outcome)} {r : ℕ} (why : Refusal) → t ≡ refused why → r ≡ numberOf why → numbers ≡ d → left ≡ rows
     → SlotsDone d rows t r numbers left
 unfolding verdictOf toldOr rowsAfter numbersFrom
 slots-refused {d} {rows = rows} why e n m l = record {
@@ -159,7 +153,7 @@ slots-refused {d} {rows = rows} why e n m l = record {
 }
 
 module _ (s main : List ℕ) (d room : ℕ) where
-  pub slots-unfit : ltb room 252 || ltb d 2304 ≡ true → slotsStep s main d room ≡ refuse UnfitMemory
+  pub slots-unfit : ltb room 252 || ltb d 2304 ≡ true → slotsStep s main d room ≡ refused UnfitMemory
   unfolding slotsStep
   slots-unfit h = picked _ h
 
@@ -168,7 +162,7 @@ module _ (s main : List ℕ) (d room : ℕ) where
   slots-fit h = passed _ h
 
 pub slots-done : {d numbers : List ℤ} {rows left : List ℕ} {t u : Told (List Outcome)} {a : SlotsAnswer} {r : ℕ} → u ≡ t → SlotsRead d t a numbers
-    → (r ≡ numberTold (toldVerdict (a .verdict))) × (left ≡ rowsAfter (toldVerdict (a .verdict)) (map toldSlot (a .slots)) rows) → SlotsDone d rows u r numbers left
+    → (r ≡ numberTold (a .verdict)) × (left ≡ rowsAfter (a .verdict) (a .slots) rows) → SlotsDone d rows u r numbers left
 slots-done {d} {numbers} {rows} {left} {t} {u} {a} {r} e s w =
     subst (λ (x : Told (List Outcome)). SlotsDone d rows x r numbers left) (sym e)
     (record {
@@ -179,7 +173,7 @@ slots-done {d} {numbers} {rows} {left} {t} {u} {a} {r} e s w =
 
 -- a frame
 module _ (s lent : List ℕ) (stated d room : ℕ) where
-  pub room-few : room < 252 → frameStep s lent stated d room ≡ noStep (numberOf UnfitMemory)
+  pub room-few : room < 252 → frameStep s lent stated d room ≡ noStep UnfitMemory
   unfolding frameStep
   room-few h = picked _ (lt-ltb room 252 h)
 
@@ -187,7 +181,7 @@ module _ (s lent : List ℕ) (stated d room : ℕ) where
   unfolding frameStep
   room-fits h = passed _ (le-ltb room 252 h)
 
-pub frame-few : {lent left rows told-rows : List ℕ} {stated : ℕ} {d numbers : List ℤ} {p : Step} {n : ℕ} → p ≡ noStep (numberOf UnfitMemory) → n ≡ numberOf UnfitMemory
+pub frame-few : {lent left rows told-rows : List ℕ} {stated : ℕ} {d numbers : List ℤ} {p : Step} {n : ℕ} → p ≡ noStep UnfitMemory → n ≡ numberOf UnfitMemory
     → left ≡ lent → numbers ≡ d → told-rows ≡ rows
     → FrameDone lent stated d rows p (record { refusal = n; length = 0; reservoir = stated }) left numbers told-rows
 unfolding noStep frameTold reservoirAfter bytesAfter numbersFrom rowsAfter
@@ -197,7 +191,7 @@ frame-few {lent} {left} {rows} {told-rows} {stated} {d} {numbers} {p} {n} e f l 
 
 pub frame-done : {lent left rows told-rows : List ℕ} {stated : ℕ} {d numbers : List ℤ} {p q : Step} {a : FrameAnswer} {n : ℕ} → q ≡ p
     → FrameRead lent (record { length = stated }) d p a left numbers
-    → (n ≡ numberTold (toldVerdict (a .verdict))) × (told-rows ≡ rowsAfter (toldVerdict (a .verdict)) (map toldSlot (a .slots)) rows)
+    → (n ≡ numberTold (a .verdict)) × (told-rows ≡ rowsAfter (a .verdict) (a .slots) rows)
     → FrameDone lent stated d rows q (record { refusal = n; length = a .length; reservoir = a .reservoir .length }) left numbers told-rows
 unfolding frameTold
 frame-done {lent} {left} {rows} {told-rows} {stated} {d} {numbers} {p} {q} {a} {n} e r w =

@@ -9,7 +9,9 @@ use lib.IntN.{ℤ}
 use lib.ListN.{length, getD}
 use lib.Seq.{paste}
 use Rattle.standard.specs.Told.{Told, refused, told, pick, verdictOf, toldOr}
-use Rattle.standard.specs.Refusals.{numberOf, refuse, SlotSaid, lacking, refusedBy, counted, SlotTold}
+use Rattle.standard.specs.Refusals.{numberOf}
+use Rattle.standard.specs.declared.Verdict.{Verdict}
+use Rattle.standard.specs.declared.Verdict.the-variants.{Accepted, Refused}
 use Rattle.standard.specs.Header.{hz, bps, headerOf, headerSize, sideSize, mainSize, frameLength, granules, channelCount}
 use Rattle.standard.specs.SideInfo.{sideOf}
 use Rattle.standard.specs.Slots.{Outcome, slotsTold, numbersFrom, readSlots}
@@ -22,41 +24,44 @@ use Rattle.standard.specs.declared.SideInfo.{SideInfo}
 use Rattle.standard.specs.declared.Refusal.the-variants.{UnfitMemory, MadeUpRecord}
 use Rattle.front_end.specs.declared.Sizes.{Sizes}
 use Rattle.front_end.specs.declared.FrameTold.{FrameTold}
+use Rattle.standard.specs.declared.SlotAnswer.{SlotAnswer}
+use Rattle.standard.specs.declared.SlotOutcome.{SlotOutcome}
+use Rattle.standard.specs.declared.SlotOutcome.the-variants.{Read, NotRead, Lacking}
 
 -- no refusal has the number 0
-abbrev pub numberTold : Told (Unit {0}) → ℕ
-numberTold (refused k) = k
-numberTold (told u) = 0
+abbrev pub numberTold : Verdict → ℕ
+numberTold (Refused r) = numberOf r
+numberTold Accepted = 0
 
 -- ---- a slot's row of 63 numbers: what became of it, its count, its 22 long factors and its 39 short ones
 -- 255 for a slot that the frame lacks, which no refusal has either
-abbrev pub saidNumber : SlotSaid → ℕ
-saidNumber lacking = 255
-saidNumber (refusedBy k) = k
-saidNumber (counted n) = 0
+abbrev pub saidNumber : SlotOutcome → ℕ
+saidNumber Lacking = 255
+saidNumber (NotRead r) = numberOf r
+saidNumber (Read n) = 0
 
-abbrev pub saidCount : SlotSaid → ℕ
-saidCount lacking = 0
-saidCount (refusedBy k) = 0
-saidCount (counted n) = n
+abbrev pub saidCount : SlotOutcome → ℕ
+saidCount Lacking = 0
+saidCount (NotRead k) = 0
+saidCount (Read n) = n
 
-unfoldable pub slotRow : SlotTold → List ℕ
-slotRow t = saidNumber (t .said) ∷ saidCount (t .said) ∷ (t .long ++ t .short)
+unfoldable pub slotRow : SlotAnswer → List ℕ
+slotRow t = saidNumber (t .outcome) ∷ saidCount (t .outcome) ∷ (t .long ++ t .short)
 
 -- the lent rows after slots in turn, from a place on
-unfoldable pub rowsFrom : ℕ → List SlotTold → List ℕ → List ℕ
+unfoldable pub rowsFrom : ℕ → List SlotAnswer → List ℕ → List ℕ
 rowsFrom at [] d = d
 rowsFrom at (t ∷ ts) d = rowsFrom (at + 63) ts (paste d at (slotRow t) 63)
 
 -- only where the call is accepted
-unfoldable pub rowsAfter : Told (Unit {0}) → List SlotTold → List ℕ → List ℕ
-rowsAfter (refused k) ts d = d
-rowsAfter (told u) ts d = rowsFrom 0 ts d
+unfoldable pub rowsAfter : Verdict → List SlotAnswer → List ℕ → List ℕ
+rowsAfter (Refused r) ts d = d
+rowsAfter Accepted ts d = rowsFrom 0 ts d
 
 -- ---- a frame
 -- with `room` numbers lent for the rows: too few are refused as any other memory
 unfoldable pub frameStep : List ℕ → List ℕ → ℕ → ℕ → ℕ → Step
-frameStep s lent stated d room = pick (ltb room 252) (noStep (numberOf UnfitMemory)) (frameCall s lent stated d)
+frameStep s lent stated d room = pick (ltb room 252) (noStep UnfitMemory) (frameCall s lent stated d)
 
 unfoldable pub frameTold : ℕ → Step → FrameTold
 frameTold stated p =
@@ -85,7 +90,7 @@ under s f = following (headerOf s) (λ (h : FrameHeader). following (sideOf h s)
 -- the slots of a frame from given main data
 unfoldable pub slotsStep : List ℕ → List ℕ → ℕ → ℕ → Told (List Outcome)
 slotsStep s main d room =
-    pick (ltb room 252 || ltb d 2304) (refuse UnfitMemory)
+    pick (ltb room 252 || ltb d 2304) (refused UnfitMemory)
     (under s (λ (h : FrameHeader) (i : SideInfo). readSlots h i main d))
 
 pub record SlotsDone (d : List ℤ) (rows : List ℕ) (t : Told (List Outcome)) (r : ℕ) (numbers : List ℤ) (told-rows : List ℕ) : Type 0 where
@@ -96,11 +101,11 @@ pub record SlotsDone (d : List ℤ) (rows : List ℕ) (t : Told (List Outcome)) 
 -- the reorder of a slot's numbers by the frame's own record of the n-th slot: the frame must have such a slot
 unfoldable pub reorderBy : FrameHeader → SideInfo → ℕ → List ℤ → Told (List ℤ)
 reorderBy h i n d =
-    pick (ltb n (granules h * channelCount h)) (reorderOf h (getD (i .slots) n pastRecord) d) (refuse MadeUpRecord)
+    pick (ltb n (granules h * channelCount h)) (reorderOf h (getD (i .slots) n pastRecord) d) (refused MadeUpRecord)
 
 unfoldable pub reorderStep : List ℕ → ℕ → List ℤ → Told (List ℤ)
 reorderStep s n d =
-    pick (ltb (length d) 576) (refuse UnfitMemory)
+    pick (ltb (length d) 576) (refused UnfitMemory)
     (under s (λ (h : FrameHeader) (i : SideInfo). reorderBy h i n d))
 
 pub record ReorderDone (d : List ℤ) (t : Told (List ℤ)) (r : ℕ) (numbers : List ℤ) : Type 0 where
@@ -109,8 +114,8 @@ pub record ReorderDone (d : List ℤ) (t : Told (List ℤ)) (r : ℕ) (numbers :
 
 -- ---- what a header says of its frame; nothing is told of a refused one
 unfoldable pub sizesTold : Told FrameHeader → Sizes
-sizesTold (refused k) =
-    record { refusal = k; length = 0; header = 0; side = 0; main = 0; granules = 0; channels = 0; rate = 0; bitrate = 0 }
+sizesTold (refused r) =
+    record { refusal = numberOf r; length = 0; header = 0; side = 0; main = 0; granules = 0; channels = 0; rate = 0; bitrate = 0 }
 sizesTold (told h) =
     record {
       refusal = 0;

@@ -8,7 +8,6 @@ ghost use mathlib.Core.List.{map};
 ghost use Prim.Native.Nat.{_+_, _≤_};
 ghost use lib.ListN.{length};
 ghost use lib.Seq.{paste};
-ghost use Rattle.standard.specs.Refusals.{toldVerdict, toldOutcome, toldSlot};
 ghost use Rattle.front_end.specs.Calls.{numberTold, saidNumber, saidCount, slotRow, rowsFrom, rowsAfter};
 
 // Numbers in a row.
@@ -23,7 +22,7 @@ struct Said {
 }
 
 fn said_of(o: SlotOutcome) -> Said
-    ensures { λ r. ⌜ (r .number ≡ saidNumber (toldOutcome o)) × (r .count ≡ saidCount (toldOutcome o)) ⌝ }
+    ensures { λ r. ⌜ (r .number ≡ saidNumber o) × (r .count ≡ saidCount o) ⌝ }
 {
     match o {
         SlotOutcome::Read { count } => Said { number: 0, count },
@@ -51,7 +50,7 @@ fn put_factors(rows: &mut [u16], at: usize, factors: &[u8])
 
 fn put_row(rows: &mut [u16], at: usize, a: SlotAnswer)
     requires { ⌜ at + 63 ≤ length (now rows) ⌝ }
-    ensures { λ _. ⌜ now (rows .exit) ≡ paste (now (rows .entry)) at (slotRow (toldSlot a)) 63 ⌝ }
+    ensures { λ _. ⌜ now (rows .exit) ≡ paste (now (rows .entry)) at (slotRow a) 63 ⌝ }
 {
     let outcome = a.outcome;
     let long = a.long;
@@ -65,7 +64,7 @@ fn put_row(rows: &mut [u16], at: usize, a: SlotAnswer)
 
 fn put_rows(rows: &mut [u16], slots: [SlotAnswer; 4])
     requires { ⌜ 252 ≤ length (now rows) ⌝ }
-    ensures { λ _. ⌜ now (rows .exit) ≡ rowsFrom 0 (map toldSlot slots) (now (rows .entry)) ⌝ }
+    ensures { λ _. ⌜ now (rows .exit) ≡ rowsFrom 0 slots (now (rows .entry)) ⌝ }
 {
     let mut k = 0usize;
     while k < 4 {
@@ -78,7 +77,7 @@ fn put_rows(rows: &mut [u16], slots: [SlotAnswer; 4])
 // A verdict in numbers; the rows of an accepted call are written.
 pub(crate) fn tell(verdict: Verdict, slots: [SlotAnswer; 4], rows: &mut [u16]) -> u8
     requires { ⌜ 252 ≤ length (now rows) ⌝ }
-    ensures { λ r. ⌜ (r ≡ numberTold (toldVerdict verdict)) × (now (rows .exit) ≡ rowsAfter (toldVerdict verdict) (map toldSlot slots) (now (rows .entry))) ⌝ }
+    ensures { λ r. ⌜ (r ≡ numberTold verdict) × (now (rows .exit) ≡ rowsAfter verdict slots (now (rows .entry))) ⌝ }
 {
     match verdict {
         Verdict::Refused(why) => number_of(why),
@@ -91,7 +90,7 @@ pub(crate) fn tell(verdict: Verdict, slots: [SlotAnswer; 4], rows: &mut [u16]) -
 
 // A verdict in numbers.
 pub(crate) fn verdict_number(verdict: Verdict) -> u8
-    ensures { λ r. ⌜ r ≡ numberTold (toldVerdict verdict) ⌝ }
+    ensures { λ r. ⌜ r ≡ numberTold verdict ⌝ }
 {
     match verdict {
         Verdict::Refused(why) => number_of(why),

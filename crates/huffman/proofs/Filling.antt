@@ -10,9 +10,9 @@ use lib.IntN.{ℤ}
 use lib.ListN.{length, take, drop, set, length-append}
 use lib.Seq.{sets, sets-eq, length-sets, length-take-le, take-at, drop-at, drop-drop}
 use Rattle.standard.specs.Bits.{window}
-use Rattle.standard.specs.BitsLaws.{window-drop}
+use Rattle.standard.specs.BitsLaws.{window-drop, window-length}
 use Rattle.standard.specs.Numbers.{Numbers, got, prepend, pairOf, quadOf, pairs, quads}
-use Rattle.standard.specs.NumbersLaws.{prepend-nil, prepend-prepend, pairs-none, pairs-two, quads-none, quads-dropped, quads-four}
+use Rattle.standard.specs.NumbersLaws.{prepend-nil, prepend-prepend, pairs-none, pairs-two, quads-end, quads-none, quads-dropped, quads-four}
 use Rattle.standard.specs.declared.Refusal.{Refusal}
 use Rattle.standard.specs.declared.Refusal.the-variants.{NoCodeword}
 use Rattle.standard.specs.declared.Pair.{Pair}
@@ -176,21 +176,27 @@ module _ (q : Numbers) (trees : List ℕ) (t from : ℕ) (s : List ℕ) (e : ℕ
       let z : (576 - i) / 4 ≡ 0 = omega arith in
       quad-done (window s at e) (ap (λ (m : ℕ). quads (lookedUp trees) t m (window s at e)) z)
 
-  -- four numbers fit
-  module _ (h : i ≤ 572) where
+  pub quad-out : e ≤ at → NumbersRead q from out₀ out (Counted i)
+  quad-out h = quad-done [] (quads-end (lookedUp trees) t ((576 - i) / 4) (window s at e) (omega (arith, window-length s at e)))
+
+  -- four numbers fit, and a bit is left
+  module _ (h : i ≤ 572) (k : at < e) where
+    left : 0 < length (window s at e)
+    left = omega (arith, window-length s at e)
+
     one-quad : quads (lookedUp trees) t ((576 - i) / 4) (window s at e) ≡ quads (lookedUp trees) t (suc ((576 - (i + 4)) / 4)) (window s at e)
     one-quad =
         let z : (576 - i) / 4 ≡ suc ((576 - (i + 4)) / 4) = omega arith in
         ap (λ (m : ℕ). quads (lookedUp trees) t m (window s at e)) z
 
     pub quad-dropped : Dropped ≡ quadOf (lookedUp trees) t (window s at e) → NumbersRead q from out₀ out (Counted i)
-    quad-dropped g = quad-done [] (one-quad ∙ quads-dropped (lookedUp trees) t ((576 - (i + 4)) / 4) (window s at e) g)
+    quad-dropped g = quad-done [] (one-quad ∙ quads-dropped (lookedUp trees) t ((576 - (i + 4)) / 4) (window s at e) left g)
 
     pub quad-halt : NoQuad ≡ quadOf (lookedUp trees) t (window s at e) → NumbersRead q from out₀ out (Uncounted NoCodeword)
     unfolding prepend Says
     quad-halt g = record {
       long = r .fill .long;
-      says = r .fill .same ∙ ap (prepend (take i out)) (one-quad ∙ quads-none (lookedUp trees) t ((576 - (i + 4)) / 4) (window s at e) g);
+      says = r .fill .same ∙ ap (prepend (take i out)) (one-quad ∙ quads-none (lookedUp trees) t ((576 - (i + 4)) / 4) (window s at e) left g);
     }
 
     pub quad-turn : (v w x y : ℤ) (u : ℕ) → Four v w x y u ≡ quadOf (lookedUp trees) t (window s at e) → e < 2 ^ 64
@@ -202,7 +208,7 @@ module _ (q : Numbers) (trees : List ℕ) (t from : ℕ) (s : List ℕ) (e : ℕ
       fill =
           rw (four-stores out i v w x y)
           (filling-turn q (quads (lookedUp trees) t ((576 - i) / 4) (window s at e)) (quads (lookedUp trees) t ((576 - (i + 4)) / 4) (window s (at + u) e)) out₀ out (v ∷ w ∷ x ∷ y ∷ []) i (i + 4) (r .fill)
-          (one-quad ∙ quads-four (lookedUp trees) t ((576 - (i + 4)) / 4) (window s at e) v w x y u g
+          (one-quad ∙ quads-four (lookedUp trees) t ((576 - (i + 4)) / 4) (window s at e) left v w x y u g
           ∙ ap (λ (b : List Bool). prepend (v ∷ w ∷ x ∷ y ∷ []) (quads (lookedUp trees) t ((576 - (i + 4)) / 4) b)) (window-drop u s at e))
           refl (omega arith));
     }

@@ -6,8 +6,7 @@ use lib.Dec.{ltb}
 use lib.IntN.{ℤ}
 use lib.ListN.{length}
 use lib.Seq.{paste}
-use Rattle.standard.specs.Told.{Told, told, pick}
-use Rattle.standard.specs.Refusals.{refuse}
+use Rattle.standard.specs.Told.{Told, told, pick, refused}
 use Rattle.standard.specs.Numbers.{Reader, Numbers, halted, got, numbersOf, padded}
 use Rattle.standard.specs.declared.SampleRate.{SampleRate}
 use Rattle.standard.specs.declared.SlotRecord.{SlotRecord}
@@ -24,10 +23,10 @@ slotNumbers word rate r b d =
 -- what the answer says: the number of a refusal, or how many numbers were read
 abbrev pub toldCount : HuffmanAnswer → Told ℕ
 toldCount (Counted n) = told n
-toldCount (Uncounted r) = refuse r
+toldCount (Uncounted r) = refused r
 
 unfoldable pub countOf : Numbers → Told ℕ
-countOf (halted r) = refuse r
+countOf (halted r) = refused r
 countOf (got vs b) = told (length vs)
 
 -- the lent numbers afterwards: of a refused slot as they were

@@ -9,8 +9,7 @@ use borrow.Author.Tests.{lt-ltb, le-ltb}
 use lib.IntN.{ℤ}
 use lib.ListN.{length}
 use Rattle.standard.specs.ToldLaws.{picked, passed}
-use Rattle.standard.specs.Refusals.{numberOf, refuse}
-use Rattle.standard.specs.RefusalsLaws.{one-number}
+use Rattle.standard.specs.RefusalsLaws.{one-reason}
 use Rattle.standard.specs.Numbers.{Reader, Numbers, halted, numbersOf}
 use Rattle.standard.specs.declared.SampleRate.{SampleRate}
 use Rattle.standard.specs.declared.SlotRecord.{SlotRecord}
@@ -19,6 +18,7 @@ use Rattle.standard.specs.declared.Refusal.the-variants.{UnfitMemory, TooManyPa
 use Rattle.huffman.specs.Slot.{slotNumbers, toldCount, countOf, numbersAfter}
 use Rattle.huffman.specs.declared.HuffmanAnswer.{HuffmanAnswer}
 use Rattle.huffman.specs.declared.HuffmanAnswer.the-variants.{Counted, Uncounted}
+use Rattle.standard.specs.Told.{refused}
 
 unlike : {A : Type 0} → _≡_ {A = ℕ} 0 1 → A
 unlike z = let w : ⊥ = omega arith in absurd w
@@ -27,7 +27,7 @@ pub one-count : (a b : HuffmanAnswer) → toldCount a ≡ toldCount b → a ≡ 
 one-count (Counted m) (Counted n) e = let p : m ≡ n = cc in ap Counted p
 one-count (Counted m) (Uncounted q) e = unlike (cc)
 one-count (Uncounted r) (Counted n) e = unlike (cc)
-one-count (Uncounted r) (Uncounted q) e = let p : numberOf r ≡ numberOf q = cc in ap Uncounted (one-number r q p)
+one-count (Uncounted r) (Uncounted q) e = ap Uncounted (one-reason e)
 
 module _ (word : Reader) (rate : SampleRate) (r : SlotRecord) (b : List Bool) (d : List ℤ) where
   pub slot-unfit : length d < 576 → slotNumbers word rate r b d ≡ halted UnfitMemory
@@ -42,6 +42,6 @@ module _ (word : Reader) (rate : SampleRate) (r : SlotRecord) (b : List Bool) (d
   unfolding slotNumbers
   slot-fits h k = passed (halted UnfitMemory) (le-ltb (length d) 576 h) ∙ passed (halted TooManyPairs) (le-ltb 288 (r .pairs) k)
 
-pub refused-as : (q : Numbers) (d : List ℤ) (why : Refusal) → q ≡ halted why → (refuse why ≡ countOf q) × (d ≡ numbersAfter q d)
+pub refused-as : (q : Numbers) (d : List ℤ) (why : Refusal) → q ≡ halted why → (refused why ≡ countOf q) × (d ≡ numbersAfter q d)
 unfolding countOf numbersAfter
 refused-as q d why e = (sym (ap countOf e), sym (ap (λ (x : Numbers). numbersAfter x d) e))

@@ -87,7 +87,7 @@ pub(crate) fn read_quads(
 {
     let mut at = start;
     let mut i = from;
-    while i <= 572 {
+    while i <= 572 && at < end {
         match quad(trees, table, s, at, end) {
             Quad::NoQuad => {
                 return HuffmanAnswer::Uncounted(Refusal::NoCodeword);

@@ -5,8 +5,10 @@ use Prim.Native.Nat.{ℕ, _*_, _/_, _%_}
 use lib.IntN.{ℤ}
 use lib.ListN.{take, drop}
 use Rattle.standard.specs.Told.{pick}
-use Rattle.standard.specs.Refusals.{SlotSaid, lacking, refusedBy, counted}
+use Rattle.standard.specs.Refusals.{numberOf}
 use Rattle.text.specs.Text.{decimalOf, signedOf}
+use Rattle.standard.specs.declared.SlotOutcome.{SlotOutcome}
+use Rattle.standard.specs.declared.SlotOutcome.the-variants.{Read, NotRead, Lacking}
 
 -- "frame N length L"
 unfoldable pub frameLine : ℕ → ℕ → List ℕ
@@ -41,11 +43,11 @@ unfoldable pub notReadEnd : ℕ → List ℕ
 notReadEnd k = (114 ∷ 101 ∷ 102 ∷ 117 ∷ 115 ∷ 101 ∷ 100 ∷ 32 ∷ []) ++ decimalOf k ++ (10 ∷ [])
 
 -- slot n of a frame with two channels, or with one; its numbers are those from 576 n on, up to its count
-unfoldable pub slotLine : Bool → ℕ → SlotSaid → List ℤ → List ℕ
-slotLine two n lacking vs = []
-slotLine two n (refusedBy k) vs = slotStart (pick two (n / 2) n) (pick two (n % 2) 0) ++ notReadEnd k
-slotLine two n (counted k) vs = slotStart (pick two (n / 2) n) (pick two (n % 2) 0) ++ readEnd k (take k (drop (576 * n) vs))
+unfoldable pub slotLine : Bool → ℕ → SlotOutcome → List ℤ → List ℕ
+slotLine two n Lacking vs = []
+slotLine two n (NotRead r) vs = slotStart (pick two (n / 2) n) (pick two (n % 2) 0) ++ notReadEnd (numberOf r)
+slotLine two n (Read k) vs = slotStart (pick two (n / 2) n) (pick two (n % 2) 0) ++ readEnd k (take k (drop (576 * n) vs))
 
 -- the four slots of a frame's answer
-unfoldable pub slotsText : Bool → SlotSaid → SlotSaid → SlotSaid → SlotSaid → List ℤ → List ℕ
+unfoldable pub slotsText : Bool → SlotOutcome → SlotOutcome → SlotOutcome → SlotOutcome → List ℤ → List ℕ
 slotsText two a b c d vs = slotLine two 0 a vs ++ slotLine two 1 b vs ++ slotLine two 2 c vs ++ slotLine two 3 d vs

@@ -8,7 +8,7 @@ use lib.IntN.{ℤ}
 use lib.ListN.{length, take, drop, getD}
 use lib.Seq.{take-suc, take-length}
 use Rattle.standard.specs.Told.{pick}
-use Rattle.standard.specs.Refusals.{numberOf, toldOutcome}
+use Rattle.standard.specs.Refusals.{numberOf}
 use Rattle.standard.specs.declared.Refusal.{Refusal}
 use Rattle.standard.specs.declared.SlotOutcome.{SlotOutcome}
 use Rattle.standard.specs.declared.SlotOutcome.the-variants.{Read, NotRead, Lacking}
@@ -35,18 +35,18 @@ text-all vs i e = ap (λ (k : ℕ). numbersText (take k vs)) e ∙ ap numbersTex
 
 -- ---- a slot's line by its outcome
 module _ (two : Bool) (n : ℕ) (vs : List ℤ) where
-  pub lacking-line : {o : SlotOutcome} → o ≡ Lacking → [] ≡ slotLine two n (toldOutcome o) vs
+  pub lacking-line : {o : SlotOutcome} → o ≡ Lacking → [] ≡ slotLine two n o vs
   unfolding slotLine
-  lacking-line e = ap (λ (o : SlotOutcome). slotLine two n (toldOutcome o) vs) (sym e)
+  lacking-line e = ap (λ (o : SlotOutcome). slotLine two n o vs) (sym e)
 
   pub refused-line : {o : SlotOutcome} {why : Refusal} (g c : ℕ) → g ≡ pick two (n / 2) n → c ≡ pick two (n % 2) 0 → o ≡ NotRead why
-      → slotStart g c ++ notReadEnd (numberOf why) ≡ slotLine two n (toldOutcome o) vs
+      → slotStart g c ++ notReadEnd (numberOf why) ≡ slotLine two n o vs
   unfolding slotLine
   refused-line {o} {why} g c p q e =
-      (λ j. slotStart (p j) (q j) ++ notReadEnd (numberOf why)) ∙ ap (λ (o : SlotOutcome). slotLine two n (toldOutcome o) vs) (sym e)
+      (λ j. slotStart (p j) (q j) ++ notReadEnd (numberOf why)) ∙ ap (λ (o : SlotOutcome). slotLine two n o vs) (sym e)
 
   pub read-line : {o : SlotOutcome} {k : ℕ} (g c : ℕ) (xs : List ℤ) → g ≡ pick two (n / 2) n → c ≡ pick two (n % 2) 0
-      → xs ≡ take k (drop (576 * n) vs) → o ≡ Read k → slotStart g c ++ readEnd k xs ≡ slotLine two n (toldOutcome o) vs
+      → xs ≡ take k (drop (576 * n) vs) → o ≡ Read k → slotStart g c ++ readEnd k xs ≡ slotLine two n o vs
   unfolding slotLine
   read-line {o} {k} g c xs p q f e =
-      (λ j. slotStart (p j) (q j) ++ readEnd k (f j)) ∙ ap (λ (o : SlotOutcome). slotLine two n (toldOutcome o) vs) (sym e)
+      (λ j. slotStart (p j) (q j) ++ readEnd k (f j)) ∙ ap (λ (o : SlotOutcome). slotLine two n o vs) (sym e)

@@ -9,7 +9,7 @@ use window::put;
 ghost use mathlib.Core.Path.{_≡_};
 ghost use Prim.Native.Nat.{_/_, _%_};
 ghost use lib.ListN.{take, drop};
-ghost use Rattle.standard.specs.Refusals.{numberOf, toldOutcome};
+ghost use Rattle.standard.specs.Refusals.{numberOf};
 ghost use Rattle.standard.specs.Told.{pick};
 ghost use Rattle.window.specs.Window.{Put};
 ghost use Rattle.lines.specs.Said.{frameLine, refusedLine, endLine, slotStart, numbersText, readEnd, notReadEnd, slotLine, slotsText};
@@ -115,7 +115,7 @@ fn channel(two: bool, n: u64) -> u64
 
 // Slot n of a frame with two channels, or with one. Its numbers are those from 576 n on, up to its count.
 fn put_slot(out: &mut [u8], at: usize, two: bool, n: u8, slot: SlotAnswer, numbers: &[i32]) -> usize
-    ensures { λ r. ⌜ Put (now (out .entry)) at (slotLine two n (toldOutcome (slot .outcome)) (now (numbers .entry))) r (now (out .exit)) ⌝ }
+    ensures { λ r. ⌜ Put (now (out .entry)) at (slotLine two n (slot .outcome) (now (numbers .entry))) r (now (out .exit)) ⌝ }
 {
     let o = slot.outcome;
     let g = granule(two, n as u64);
@@ -145,7 +145,7 @@ pub fn put_slots(
     fourth: SlotAnswer,
     numbers: &[i32],
 ) -> usize
-    ensures { λ r. ⌜ Put (now (out .entry)) at (slotsText two (toldOutcome (first .outcome)) (toldOutcome (second .outcome)) (toldOutcome (third .outcome)) (toldOutcome (fourth .outcome)) (now (numbers .entry))) r (now (out .exit)) ⌝ }
+    ensures { λ r. ⌜ Put (now (out .entry)) at (slotsText two (first .outcome) (second .outcome) (third .outcome) (fourth .outcome) (now (numbers .entry))) r (now (out .exit)) ⌝ }
 {
     let a = put_slot(&mut *out, at, two, 0, first, numbers);
     let b = put_slot(&mut *out, a, two, 1, second, numbers);

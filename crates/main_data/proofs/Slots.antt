@@ -8,7 +8,7 @@ use lib.Dec.{ltb}
 use lib.IntN.{ℤ}
 use lib.ListN.{length, drop, replicate}
 use borrow.Author.Tests.{lt-ltb, le-ltb}
-use Rattle.standard.specs.Told.{Told, pick, told}
+use Rattle.standard.specs.Told.{Told, pick, told, refused}
 use Rattle.standard.specs.ToldLaws.{picked, passed}
 use Rattle.standard.specs.Bits.{bits, window}
 use Rattle.standard.specs.BitsLaws.{drop-bits}
@@ -18,8 +18,7 @@ use Rattle.standard.specs.Factors.{planOf, planBits, factorsFrom, longFactors, 
 use Rattle.standard.specs.FactorsLaws.{factors-length, plan-length, short-length, factors-bits}
 use Rattle.standard.specs.SharingLaws.{short-free}
 use Rattle.standard.specs.Numbers.{Numbers, halted, got, numbersOf}
-use Rattle.standard.specs.Refusals.{numberOf, refuse, counted, toldSlot}
-use Rattle.standard.specs.RefusalsLaws.{one-number, apart}
+use Rattle.standard.specs.RefusalsLaws.{apart, one-reason}
 use Rattle.standard.specs.Slots.{Outcome, stopped, anyOf, withFactors, slotBy, slotOf, slotTold, numbersAfter}
 use Rattle.huffman.specs.Slot.{slotNumbers, countOf, numbersAfter as slotLeft}
 use Rattle.huffman.specs.SlotLaws.{slot-fits}
@@ -33,6 +32,7 @@ use Rattle.standard.specs.declared.SampleRate.{SampleRate}
 use Rattle.standard.specs.declared.Refusal.{Refusal}
 use Rattle.standard.specs.declared.Refusal.the-variants.{FactorOverrun, LostShare}
 use Rattle.main_data.specs.Slot.{factorsAt, SlotRead}
+use Rattle.standard.specs.declared.SlotOutcome.the-variants.{Read}
 
 module _ (g : Setting) (r : SlotRecord) where
   abbrev plan : List Rattle.standard.specs.Factors.Source
@@ -73,30 +73,27 @@ module _ (g : Setting) (r : SlotRecord) where
           ∙ (λ j. withFactors (isShort (r .block)) (factors-bits plan old s at (r .length) h j) (numbersOf wordOf (g .rate) r ((drop-bits (planBits plan) s at (r .length) ∙ ap (bits s (at + planBits plan)) k) j)))
 
 -- ---- the answers
-pub stopped-read : {o : Outcome} {d left : List ℤ} {a : SlotAnswer} {why : Refusal} → o ≡ stopped why → toldSlot a ≡ slotTold (stopped why) → left ≡ d
+pub stopped-read : {o : Outcome} {d left : List ℤ} {a : SlotAnswer} {why : Refusal} → o ≡ stopped why → a ≡ slotTold (stopped why) → left ≡ d
     → SlotRead o d a left
 unfolding numbersAfter
 stopped-read {d = d} e t l = record { answer = t ∙ sym (ap slotTold e); numbers = l ∙ sym (ap (λ (o : Outcome). numbersAfter o 0 d) e) }
 
 -- what the numbers came to is what their reader answered
 module _ (short : Bool) (fs : List ℕ) (d left : List ℤ) (a : SlotAnswer) where
-  pub numbers-refused : (q : Numbers) (why : Refusal) → refuse why ≡ countOf q → left ≡ slotLeft q d → toldSlot a ≡ slotTold (stopped why)
+  pub numbers-refused : (q : Numbers) (why : Refusal) → refused why ≡ countOf q → left ≡ slotLeft q d → a ≡ slotTold (stopped why)
       → SlotRead (withFactors short fs q) d a left
   unfolding countOf slotLeft withFactors
-  numbers-refused (halted r) why e l t = stopped-read (ap stopped (sym (one-number why r (same e)))) t l
-    where
-      same : _≡_ {A = Told ℕ} (refuse why) (refuse r) → numberOf why ≡ numberOf r
-      same e = cc
+  numbers-refused (halted r) why e l t = stopped-read (ap stopped (sym (one-reason e))) t l
   numbers-refused (got vs b) why e l t = apart e
 
   pub numbers-counted : (q : Numbers) (n : ℕ) → told n ≡ countOf q → left ≡ slotLeft q d
-      → toldSlot a ≡ record { said = counted n; long = longFactors short fs; short = shortFactors short fs } → SlotRead (withFactors short fs q) d a left
+      → a ≡ record { outcome = Read n; long = longFactors short fs; short = shortFactors short fs } → SlotRead (withFactors short fs q) d a left
   unfolding countOf slotLeft withFactors slotTold numbersAfter
   numbers-counted (halted r) n e l t = apart (sym e)
   numbers-counted (got vs b) n e l t =
       let m : n ≡ length vs = cc in
       record {
-        answer = t ∙ (λ j. record { said = counted (m j); long = longFactors short fs; short = shortFactors short fs });
+        answer = t ∙ (λ j. record { outcome = Read (m j); long = longFactors short fs; short = shortFactors short fs });
         numbers = l;
       }
 

@@ -7,23 +7,21 @@ use native.Mathlib.Nat.{add-zero}
 use native.Mathlib.Numerals.{add-one}
 use native.Mathlib.Decide.{decLe}
 use native.Mathlib.Omega.{arith}
-use borrow.Author.Tests.{lt-ltb}
+use borrow.Author.Tests.{lt-ltb, le-ltb}
 use borrow.Rule.Slice.PartMut.{midOf, putMid, put-same, mid-len}
 use lib.Dec.{leb}
 use lib.IntN.{ℤ}
 use lib.ListN.{length, getD, take, drop, set, replicate, length-append, length-drop, drop-of-length-le, List·getD-append, List·getD-map, length-map}
 use lib.Seq.{drop-drop, drop-cons, getD-take, length-take-le, set-at}
 use Rattle.standard.specs.Told.{pick}
-use Rattle.standard.specs.ToldLaws.{picked, either-left}
+use Rattle.standard.specs.ToldLaws.{picked, passed}
 use Rattle.standard.specs.Bits.{bits}
 use Rattle.standard.specs.Header.{granulesIn, channelsIn, isMpeg1, isTwo, granules, channelCount}
 use Rattle.standard.specs.Record.{absent, isShort}
-use Rattle.standard.specs.Refusals.{SlotTold, toldSlot}
 use Rattle.standard.specs.Numbers.{padded}
-use Rattle.standard.specs.Slots.{Outcome, stopped, holds, isStopped, longOf, anyOf, sharesOf, settingOf, mateOf, slotIn, slotOf, thenSlots, slotsFrom, slotsOf, slotTold, lackingSlot, slotsTold, numbersAfter, numbersFrom}
+use Rattle.standard.specs.Slots.{Outcome, alone, stopped, holds, isStopped, longOf, anyOf, sharesOf, settingOf, mateOf, slotIn, slotOf, thenSlots, slotsFrom, slotsOf, slotTold, lackingSlot, slotsTold, numbersAfter, numbersFrom}
 use Rattle.standard.specs.CopyLaws.{paste-whole}
 use Rattle.standard.specs.RowsLaws.{getD-within}
-use Rattle.standard.specs.SharingLaws.{own-alone}
 use Rattle.standard.specs.SideInfo.{isSide}
 use Rattle.standard.specs.SideLaws.{four-slots, slot-record, small-record}
 use Rattle.standard.specs.SlotsLaws.{padded-long, length-after}
@@ -33,7 +31,7 @@ use Rattle.standard.specs.declared.SideInfo.{SideInfo}
 use Rattle.standard.specs.declared.SlotRecord.{SlotRecord}
 use Rattle.standard.specs.declared.SlotAnswer.{SlotAnswer}
 use Rattle.standard.specs.declared.Refusal.the-variants.{MissingBits}
-use Rattle.main_data.specs.Slot.{SlotRead, saidRefused, noAnswer, Mated}
+use Rattle.main_data.specs.Slot.{SlotRead, saidRefused, noAnswer, mateIn, Mated}
 
 -- ---- the lent numbers
 -- a slot's own part put back is the slot's step in all of them
@@ -60,24 +58,18 @@ map-append : {A B : Type 0} (f : A → B) (l m : List A) → map f (l ++ m) ≡ 
 map-append f [] m = refl
 map-append f (x ∷ l) m = ap (λ (t : List _). f x ∷ t) (map-append f l m)
 
-map-set : {A B : Type 0} (f : A → B) (l : List A) (k : ℕ) (a : A) → map f (set l k a) ≡ set (map f l) k (f a)
-map-set f [] k a = refl
-map-set f (x ∷ l) zero a = refl
-map-set f (x ∷ l) (suc k) a = ap (λ (t : List _). f x ∷ t) (map-set f l k a)
-
 -- one more of four answers
 pub told-turn : (answers : List SlotAnswer) (done : List Outcome) (k : ℕ) (a : SlotAnswer) (o : Outcome) → length done ≡ k → k < 4
-    → map toldSlot answers ≡ map slotTold done ++ replicate (4 - k) lackingSlot → toldSlot a ≡ slotTold o
-    → map toldSlot (set answers k a) ≡ map slotTold (done ++ (o ∷ [])) ++ replicate (4 - (k + 1)) lackingSlot
+    → answers ≡ map slotTold done ++ replicate (4 - k) lackingSlot → a ≡ slotTold o
+    → set answers k a ≡ map slotTold (done ++ (o ∷ [])) ++ replicate (4 - (k + 1)) lackingSlot
 told-turn answers done k a o l h t e =
     let n : 4 - k ≡ suc (4 - (k + 1)) = omega arith in
-    map-set toldSlot answers k a
-    ∙ (λ j. set ((t ∙ ap (λ (m : ℕ). map slotTold done ++ replicate m lackingSlot) n) j) k (e j))
+    (λ j. set ((t ∙ ap (λ (m : ℕ). map slotTold done ++ replicate m lackingSlot) n) j) k (e j))
     ∙ set-at (map slotTold done) lackingSlot (replicate (4 - (k + 1)) lackingSlot) (slotTold o) k (length-map done slotTold ∙ l)
-    ∙ sym (ap (λ (x : List SlotTold). x ++ replicate (4 - (k + 1)) lackingSlot) (map-append slotTold done (o ∷ [])) ∙ append-assoc (map slotTold done) (slotTold o ∷ []) (replicate (4 - (k + 1)) lackingSlot))
+    ∙ sym (ap (λ (x : List SlotAnswer). x ++ replicate (4 - (k + 1)) lackingSlot) (map-append slotTold done (o ∷ [])) ∙ append-assoc (map slotTold done) (slotTold o ∷ []) (replicate (4 - (k + 1)) lackingSlot))
 
 -- ---- the slot of the same channel in granule 0, as its answer tells it
-said-stopped : (o : Outcome) → saidRefused (slotTold o .said) ≡ isStopped o
+said-stopped : (o : Outcome) → saidRefused (slotTold o .outcome) ≡ isStopped o
 unfolding saidRefused slotTold isStopped
 said-stopped (stopped r) = refl
 said-stopped (holds long short vs) = refl
@@ -89,18 +81,13 @@ told-long (holds long short vs) = refl
 
 -- an answer before the k-th tells the outcome at its place
 told-at : (answers : List SlotAnswer) (done : List Outcome) (k j : ℕ) (z : SlotAnswer) (u : Outcome) → length done ≡ k
-    → map toldSlot answers ≡ map slotTold done ++ replicate (4 - k) lackingSlot → j < k → toldSlot (getD answers j z) ≡ slotTold (getD done j u)
+    → answers ≡ map slotTold done ++ replicate (4 - k) lackingSlot → j < k → getD answers j z ≡ slotTold (getD done j u)
 told-at answers done k j z u l t h =
     let n : length (map slotTold done) ≡ length done = length-map done slotTold in
-    sym (List·getD-map toldSlot answers j z)
-    ∙ ap (λ (x : List SlotTold). getD x j (toldSlot z)) t
-    ∙ List·getD-append (map slotTold done) (replicate (4 - k) lackingSlot) (toldSlot z) j (omega arith)
-    ∙ getD-within (map slotTold done) j (toldSlot z) (slotTold u) (omega arith)
+    ap (λ (x : List SlotAnswer). getD x j z) t
+    ∙ List·getD-append (map slotTold done) (replicate (4 - k) lackingSlot) z j (omega arith)
+    ∙ getD-within (map slotTold done) j z (slotTold u) (omega arith)
     ∙ List·getD-map slotTold done j u
-
-no-shares : (h : FrameHeader) (i : SideInfo) (k : ℕ) (r : SlotRecord) → k < channelCount h → anyOf (sharesOf h i k r) ≡ false
-unfolding sharesOf anyOf
-no-shares h i k r l = ap anyOf (picked _ (either-left (isShort (r .block)) (lt-ltb _ _ l)))
 
 pub some-channels : (h : FrameHeader) → 0 < channelCount h
 unfolding channelCount
@@ -110,28 +97,26 @@ some-channels h = by (isTwo (h .channels))
     by true = omega arith
     by false = omega arith
 
+mate-told : (h : FrameHeader) (answers : List SlotAnswer) (done : List Outcome) (k : ℕ) → length done ≡ k → answers ≡ map slotTold done ++ replicate (4 - k) lackingSlot
+    → mateIn (channelCount h) answers k ≡ slotTold (mateOf h done)
+unfolding mateIn mateOf
+mate-told h answers done k l t =
+    let c = channelCount h in
+    elim (decLe c k) [
+      | yes m ↦ passed _ (le-ltb k c m) ∙ told-at answers done k (k - c) noAnswer alone l t (omega (arith, some-channels h))
+          ∙ ap (λ (n : ℕ). slotTold (getD done (n - c) alone)) (sym l) ∙ ap slotTold (sym (passed _ (le-ltb (length done) c (omega arith))))
+      | no m ↦ picked _ (lt-ltb k c (omega arith)) ∙ ap slotTold (sym (picked _ (lt-ltb (length done) c (omega arith))))
+    ]
+
 -- so the slot comes to what the definition says after the outcomes before it
 pub mated-slot : (h : FrameHeader) (i : SideInfo) (s : List ℕ) (at : ℕ) (answers : List SlotAnswer) (done : List Outcome) (k : ℕ) (r : SlotRecord)
-    (lost : Bool) (old : List ℕ) → length done ≡ k → map toldSlot answers ≡ map slotTold done ++ replicate (4 - k) lackingSlot → Mated (channelCount h) answers k lost old
+    (lost : Bool) (old : List ℕ) → length done ≡ k → answers ≡ map slotTold done ++ replicate (4 - k) lackingSlot → Mated (channelCount h) answers k lost old
     → slotIn s at (settingOf h i k r) r lost old ≡ slotIn s at (settingOf h i (length done) r) r (isStopped (mateOf h done)) (longOf (mateOf h done))
-unfolding mateOf slotIn settingOf
 mated-slot h i s at answers done k r lost old l t m =
-    elim (decLe (channelCount h) k) [ yes c ↦ in-second c | no c ↦ in-first (omega arith) ]
-  where
-    in-second : channelCount h ≤ k → slotIn s at (settingOf h i k r) r lost old ≡ slotIn s at (settingOf h i (length done) r) r (isStopped (mateOf h done)) (longOf (mateOf h done))
-    in-second c =
-        let j = k - channelCount h in
-        let within : j < k = omega (arith, some-channels h) in
-        let mate = told-at answers done k j noAnswer (stopped MissingBits) l t within in
-        let same-lost = m .lost-is c ∙ ap (λ (x : SlotTold). saidRefused (x .said)) mate ∙ said-stopped (getD done j (stopped MissingBits)) in
-        let same-old = m .old-is c ∙ ap (λ (x : SlotTold). x .long) mate ∙ told-long (getD done j (stopped MissingBits)) in
-        (λ q. slotIn s at (settingOf h i k r) r (same-lost q) (same-old q))
-        ∙ (λ q. slotIn s at (settingOf h i (sym l q) r) r (isStopped (getD done (sym l q - channelCount h) (stopped MissingBits))) (longOf (getD done (sym l q - channelCount h) (stopped MissingBits))))
-
-    in-first : k < channelCount h → slotIn s at (settingOf h i k r) r lost old ≡ slotIn s at (settingOf h i (length done) r) r (isStopped (mateOf h done)) (longOf (mateOf h done))
-    in-first c =
-        (λ q. pick (leb (at + r .length) (8 * length s)) (own-alone (settingOf h i k r) r lost (isStopped (mateOf h done)) old (longOf (mateOf h done)) (bits s at (r .length)) (no-shares h i k r c) q) (stopped MissingBits))
-        ∙ ap (λ (n : ℕ). slotIn s at (settingOf h i n r) r (isStopped (mateOf h done)) (longOf (mateOf h done))) (sym l)
+    let mate = mate-told h answers done k l t in
+    let same-lost = m .lost-is ∙ ap (λ (x : SlotAnswer). saidRefused (x .outcome)) mate ∙ said-stopped (mateOf h done) in
+    let same-old = m .old-is ∙ ap (λ (x : SlotAnswer). x .long) mate ∙ told-long (mateOf h done) in
+    λ q. slotIn s at (settingOf h i (sym l q) r) r (same-lost q) (same-old q)
 
 -- ---- the loop
 abbrev pub records : FrameHeader → SideInfo → List SlotRecord
@@ -144,7 +129,7 @@ pub record Turning (h : FrameHeader) (i : SideInfo) (s : List ℕ) (d₀ d : Lis
   pub room : 2304 ≤ length d₀
   pub long : length d ≡ length d₀
   pub rest : slotsOf h i s ≡ done ++ slotsFrom h i s at done (drop k (records h i))
-  pub told : map toldSlot answers ≡ map slotTold done ++ replicate (4 - k) lackingSlot
+  pub told : answers ≡ map slotTold done ++ replicate (4 - k) lackingSlot
   pub numbers : d ≡ numbersFrom 0 done d₀
 
 pub four-at-most : (h : FrameHeader) → granules h * channelCount h ≤ 4
@@ -157,7 +142,7 @@ four-at-most h = by (isMpeg1 (h .version)) (isTwo (h .channels))
     by false true = omega arith
     by false false = omega arith
 
-pub turning-begin : (h : FrameHeader) (i : SideInfo) (s : List ℕ) (d : List ℤ) (answers : List SlotAnswer) → 2304 ≤ length d → map toldSlot answers ≡ slotsTold []
+pub turning-begin : (h : FrameHeader) (i : SideInfo) (s : List ℕ) (d : List ℤ) (answers : List SlotAnswer) → 2304 ≤ length d → answers ≡ slotsTold []
     → Turning h i s d d answers 0 0
 unfolding slotsOf numbersFrom slotsTold
 turning-begin h i s d answers room t = record {
@@ -183,7 +168,7 @@ module _ (h : FrameHeader) (i : SideInfo) (s : List ℕ) (d₀ d : List ℤ) (an
 
   pub turning-turn : (r : SlotRecord) (lost : Bool) (old : List ℕ) (a : SlotAnswer) (left : List ℤ) → k < granules h * channelCount h
       → r ≡ getD (i .slots) k absent → r .length < 4096 → Mated (channelCount h) answers k lost old
-      → toldSlot a ≡ slotTold (slotIn s at (settingOf h i k r) r lost old)
+      → a ≡ slotTold (slotIn s at (settingOf h i k r) r lost old)
       → left ≡ numbersAfter (slotIn s at (settingOf h i k r) r lost old) (576 * k) d
       → Turning h i s d₀ left (set answers k a) (at + r .length) (k + 1)
   unfolding slotsFrom thenSlots
@@ -208,7 +193,7 @@ module _ (h : FrameHeader) (i : SideInfo) (s : List ℕ) (d₀ d : List ℤ) (an
         numbers = n ∙ (λ j. numbersAfter o (q j) (w .numbers j)) ∙ sym (numbers-snoc (w .done) o 0 d₀);
       }
 
-  pub turning-end : granules h * channelCount h ≤ k → (map toldSlot answers ≡ slotsTold (slotsOf h i s)) × (d ≡ numbersFrom 0 (slotsOf h i s) d₀)
+  pub turning-end : granules h * channelCount h ≤ k → (answers ≡ slotsTold (slotsOf h i s)) × (d ≡ numbersFrom 0 (slotsOf h i s) d₀)
   unfolding slotsFrom slotsTold
   turning-end c =
       let none : drop k (records h i) ≡ [] = drop-of-length-le (records h i) {i = k} (omega (arith, records-long)) in

@@ -13,14 +13,13 @@ ghost use mathlib.Core.Bool.{true};
 ghost use mathlib.Core.List.{map};
 ghost use Prim.Native.Nat.{_≤_, _<_};
 ghost use lib.ListN.{length, getD};
-ghost use Rattle.standard.specs.Refusals.{toldOutcome, toldSlot};
 ghost use Rattle.standard.specs.SideInfo.{isSide};
 ghost use Rattle.standard.specs.Slots.{slotsOf, slotsTold, numbersFrom};
 ghost use Rattle.codes.specs.Flat.{trees};
 ghost use Rattle.main_data.specs.Slot.{saidRefused, Mated};
 
 fn was_refused(o: SlotOutcome) -> bool
-    ensures { λ r. ⌜ r ≡ saidRefused (toldOutcome o) ⌝ }
+    ensures { λ r. ⌜ r ≡ saidRefused o ⌝ }
 {
     match o {
         SlotOutcome::Read { count: _ } => false,
@@ -64,7 +63,7 @@ pub(crate) fn slots_from(
     numbers: &mut [i32],
 ) -> [SlotAnswer; 4]
     requires { ⌜ (now links ≡ trees) × (2304 ≤ length (now numbers)) × (isSide h i ≡ true) ⌝ }
-    ensures { λ r. ⌜ (map toldSlot r ≡ slotsTold (slotsOf h i (now (main .entry)))) × (now (numbers .exit) ≡ numbersFrom 0 (slotsOf h i (now (main .entry))) (now (numbers .entry))) ⌝ }
+    ensures { λ r. ⌜ (r ≡ slotsTold (slotsOf h i (now (main .entry)))) × (now (numbers .exit) ≡ numbersFrom 0 (slotsOf h i (now (main .entry))) (now (numbers .entry))) ⌝ }
 {
     let channels = channel_count(h);
     let n = granules(h) * channels;

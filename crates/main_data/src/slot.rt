@@ -16,7 +16,6 @@ ghost use mathlib.Core.Bool.{_&&_};
 ghost use Prim.Native.Nat.{_+_, _*_, _≤_, _<_};
 ghost use lib.ListN.{length};
 ghost use Rattle.standard.specs.Bits.{bits};
-ghost use Rattle.standard.specs.Refusals.{toldSlot};
 ghost use Rattle.standard.specs.Slots.{anyOf, slotTold, slotIn, slotOf, numbersAfter};
 ghost use Rattle.codes.specs.Flat.{trees};
 ghost use Rattle.main_data.specs.Slot.{SlotRead, FactorsRead};

@@ -8,9 +8,8 @@ use native.Mathlib.Omega.{arith}
 use borrow.Author.Tests.{lt-ltb, le-ltb, eq-eqb, ne-eqb}
 use lib.Dec.{ltb, leb, eqb}
 use lib.Ieee.{binary32, ofBits, ofInt}
-use Rattle.standard.specs.Told.{told}
+use Rattle.standard.specs.Told.{told, refused}
 use Rattle.standard.specs.ToldLaws.{picked, passed, never, no-refusal, told-is}
-use Rattle.standard.specs.Refusals.{refuse}
 use Rattle.standard.specs.Bits.{bitAt, bits, field, flag, fieldAt}
 use Rattle.standard.specs.BitsLaws.{field-bits, flag-bits, fieldAt-cut}
 use Rattle.standard.specs.Record.{gainOf, compressWidth, recordWidth, scaleAt, count1At, preflagOf, blockOf, longOf, switchedOf, recordIn, recordOf}
@@ -99,7 +98,7 @@ module _ {mpeg1 : Bool} {s : List ℕ} {at : ℕ} {k : Common} {w : ℕ} (e : Pa
   other : (w / 2 ^ 20 % 4 ≡ 0 → ⊥) → eqb (field b (30 + c) 2) 0 ≡ false
   other h = ne-eqb (field b (30 + c) 2) 0 (λ q. h (window-cut 1 2 20 refl ∙ q))
 
-  pub says-many : 288 < k .pairs → recordOf mpeg1 (recordBits mpeg1 s at) ≡ refuse TooManyPairs
+  pub says-many : 288 < k .pairs → recordOf mpeg1 (recordBits mpeg1 s at) ≡ refused TooManyPairs
   unfolding recordOf recordIn
   says-many h = picked _ (lt-ltb 288 (field b 12 9) (rw pairs-are at h))
 
@@ -109,11 +108,11 @@ module _ {mpeg1 : Bool} {s : List ℕ} {at : ℕ} {k : Common} {w : ℕ} (e : Pa
     says-long i = passed _ (few h) ∙ picked _ (ap not (unset 0 22 refl i))
 
     module _ (i : w / 2 ^ 22 % 2 ≡ 1) where
-      pub says-forbidden : w / 2 ^ 20 % 4 ≡ 0 → recordOf mpeg1 (recordBits mpeg1 s at) ≡ refuse ForbiddenBlock
+      pub says-forbidden : w / 2 ^ 20 % 4 ≡ 0 → recordOf mpeg1 (recordBits mpeg1 s at) ≡ refused ForbiddenBlock
       unfolding recordOf recordIn
       says-forbidden l = passed _ (few h) ∙ passed _ (ap not (set 0 22 refl i)) ∙ picked _ (eq-eqb (field b (30 + c) 2) 0 (sym (window-cut 1 2 20 refl) ∙ l))
 
-      pub says-mixed : (w / 2 ^ 20 % 4 ≡ 0 → ⊥) → w / 2 ^ 19 % 2 ≡ 1 → recordOf mpeg1 (recordBits mpeg1 s at) ≡ refuse MixedBlock
+      pub says-mixed : (w / 2 ^ 20 % 4 ≡ 0 → ⊥) → w / 2 ^ 19 % 2 ≡ 1 → recordOf mpeg1 (recordBits mpeg1 s at) ≡ refused MixedBlock
       unfolding recordOf recordIn
       says-mixed l m = passed _ (few h) ∙ passed _ (ap not (set 0 22 refl i)) ∙ passed _ (other l) ∙ picked _ (set 3 19 refl m)
 

@@ -8,8 +8,7 @@ use borrow.Author.Tests.{lt-ltb, le-ltb}
 use lib.ListN.{length, take, drop, replicate}
 use Rattle.standard.specs.Told.{Told, refused, told}
 use Rattle.standard.specs.ToldLaws.{picked, passed, told-is}
-use Rattle.standard.specs.Refusals.{refuse}
-use Rattle.standard.specs.RefusalsLaws.{apart}
+use Rattle.standard.specs.RefusalsLaws.{apart, one-reason}
 use Rattle.standard.specs.Bits.{bits, field, fieldAt}
 use Rattle.standard.specs.BitsLaws.{one-le, drop-bits, take-bits, field-bits}
 use Rattle.standard.specs.Header.{isHeader, isMpeg1, isTwo, headerSize, sideBytes}
@@ -24,7 +23,7 @@ use Rattle.standard.specs.declared.Verdict.the-variants.{Accepted, Refused}
 use Rattle.records.specs.declared.layout.Layout.{Layout}
 use Rattle.records.specs.Layouts.{layoutOf}
 use Rattle.side_info.specs.Parts.{Gives, filled}
-use Rattle.side_info.proofs.Given.{same-refusal, given-none, given-told}
+use Rattle.side_info.proofs.Given.{given-none, given-told}
 
 -- ---- the layout
 -- main_data_begin, what is skipped, the sharing bits and the records are all
@@ -36,9 +35,9 @@ full false false = refl
 
 -- ---- what the records decide
 module _ (mpeg1 two : Bool) (b : List Bool) where
-  side-none : {k : ℕ} (t : Told (List SlotRecord)) → filled (slotCount mpeg1 two) t ≡ refused k → thenSide mpeg1 two b t ≡ refused k
+  side-none : {k : Refusal} (t : Told (List SlotRecord)) → filled (slotCount mpeg1 two) t ≡ refused k → thenSide mpeg1 two b t ≡ refused k
   unfolding thenSide
-  side-none (refused k) e = same-refusal e
+  side-none (refused k) e = ap refused (one-reason e)
   side-none (told rs) e = apart (sym e)
 
   side-all : {slots : List SlotRecord} (t : Told (List SlotRecord)) → filled (slotCount mpeg1 two) t ≡ told slots → thenSide mpeg1 two b t ≡ told (record { begin = field b 0 (beginWidth mpeg1); shares = take (shareCount mpeg1 two) (drop (sharesAt mpeg1 two) b) ++ replicate (8 - shareCount mpeg1 two) false; slots = slots })
@@ -78,7 +77,7 @@ module _ (mpeg1 two : Bool) (s : List ℕ) (at : ℕ) where
     given-there : {l : Layout} → l ≡ layoutOf mpeg1 two → Gives v slots (filled (l .slots) (recordsOf mpeg1 (l .slots) (bits s (at + l .prefix + l .shares) (l .slots * recordWidth mpeg1)))) → Gives v slots (filled n (recordsOf mpeg1 n (drop (p + m) b)))
     given-there e h = rw records-there (rw e at h)
 
-    pub side-refused : {l : Layout} {r : Refusal} → l ≡ layoutOf mpeg1 two → Gives v slots (filled (l .slots) (recordsOf mpeg1 (l .slots) (bits s (at + l .prefix + l .shares) (l .slots * recordWidth mpeg1)))) → v ≡ Refused r → sideIn mpeg1 two (bits s at (8 * sideBytes mpeg1 two)) ≡ refuse r
+    pub side-refused : {l : Layout} {r : Refusal} → l ≡ layoutOf mpeg1 two → Gives v slots (filled (l .slots) (recordsOf mpeg1 (l .slots) (bits s (at + l .prefix + l .shares) (l .slots * recordWidth mpeg1)))) → v ≡ Refused r → sideIn mpeg1 two (bits s at (8 * sideBytes mpeg1 two)) ≡ refused r
     unfolding sideIn
     side-refused e h f = side-none mpeg1 two b (recordsOf mpeg1 n (drop (p + m) b)) (given-none (given-there e h) f)
 
@@ -94,7 +93,7 @@ module _ (mpeg1 two : Bool) (from : ℕ) (s : List ℕ) {l : Layout} (e : l ≡ 
   size-is : from + l .size ≡ from + sideBytes mpeg1 two
   size-is = ap (λ (k : Layout). from + k .size) e
 
-  pub side-short : length s < from + l .size → sideFrom mpeg1 two from s ≡ refuse AbsentBytes
+  pub side-short : length s < from + l .size → sideFrom mpeg1 two from s ≡ refused AbsentBytes
   unfolding sideFrom
   side-short h = picked _ (lt-ltb (length s) (from + sideBytes mpeg1 two) (rw size-is at h))
 
@@ -108,7 +107,7 @@ unfolding headerSize
 header-small h e = omega (arith, one-le (h .crc))
 
 module _ (h : FrameHeader) (s : List ℕ) {b : Bool} (e : b ≡ isHeader h) where
-  pub side-made-up : b ≡ false → sideOf h s ≡ refuse MadeUpRecord
+  pub side-made-up : b ≡ false → sideOf h s ≡ refused MadeUpRecord
   unfolding sideOf
   side-made-up f = passed _ (sym e ∙ f)
 

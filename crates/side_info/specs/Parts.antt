@@ -5,7 +5,6 @@ use mathlib.Core.List.{List, _++_}
 use Prim.Native.Nat.{ℕ, _+_, _-_}
 use lib.ListN.{replicate}
 use Rattle.standard.specs.Told.{Told, refused, told, verdictOf}
-use Rattle.standard.specs.Refusals.{toldVerdict}
 use Rattle.standard.specs.Bits.{bits, field, fieldAt, flag}
 use Rattle.standard.specs.Record.{absent, compressWidth, recordWidth, preflagOf, scaleAt, count1At}
 use Rattle.standard.specs.declared.SlotRecord.{SlotRecord}
@@ -35,7 +34,7 @@ pub record PartsAt (mpeg1 : Bool) (s : List ℕ) (at : ℕ) (k : Common) (w : �
 
 -- a verdict and a value beside it give a reading: the value is what was read, and where it was refused nothing is said of it
 pub record Gives {A : Type 0} (v : Verdict) (a : A) (t : Told A) : Type 0 where
-  pub verdict : toldVerdict v ≡ verdictOf t
+  pub verdict : v ≡ verdictOf t
   pub value : (x : A) → t ≡ told x → a ≡ x
 
 -- the records of n slots among four, the rest lacking

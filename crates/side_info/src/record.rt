@@ -15,7 +15,6 @@ ghost use mathlib.Core.List.{List};
 ghost use Prim.Native.Nat.{ℕ, _+_, _≤_, _<_};
 ghost use Rattle.standard.specs.Told.{told, verdictOf};
 ghost use Rattle.standard.specs.Bits.{field};
-ghost use Rattle.standard.specs.Refusals.{toldVerdict};
 ghost use Rattle.standard.specs.Record.{absent, blockOf, compressWidth, recordWidth, longOf, switchedOf, recordOf, preflagOf};
 ghost use Rattle.side_info.specs.Parts.{commonOf, recordBits, PartsAt, Gives};
 
@@ -139,7 +138,7 @@ pub(crate) fn absent_record() -> SlotRecord
 // The first fault of a record, if it has one.
 pub(crate) fn verdict_of(pairs: u16, w: u64) -> Verdict
     ensures { λ r. ⌜ ((mpeg1 : Bool) (s : List ℕ) (at : ℕ) (k : Common) → PartsAt mpeg1 s at k w → pairs ≡ k .pairs
-        → toldVerdict r ≡ verdictOf (recordOf mpeg1 (recordBits mpeg1 s at))) ⌝ }
+        → r ≡ verdictOf (recordOf mpeg1 (recordBits mpeg1 s at))) ⌝ }
 {
     if 288 < pairs {
         return Verdict::Refused(Refusal::TooManyPairs);

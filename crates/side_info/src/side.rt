@@ -13,15 +13,15 @@ ghost use mathlib.Core.Bool.{false};
 ghost use mathlib.Core.List.{_++_};
 ghost use Prim.Native.Nat.{_-_, _*_, _≤_};
 ghost use lib.ListN.{replicate};
-ghost use Rattle.standard.specs.Told.{Told};
-ghost use Rattle.standard.specs.Refusals.{refuse, Answers};
+ghost use Rattle.standard.specs.Told.{Told, refused};
+ghost use Rattle.standard.specs.Refusals.{Answers};
 ghost use Rattle.standard.specs.Bits.{bits};
 ghost use Rattle.standard.specs.Header.{sideBytes};
 ghost use Rattle.standard.specs.SideInfo.{noSide, sideIn, sideFrom};
 
 // A refusal beside blank side information.
 pub fn no_side(why: Refusal) -> SideInfoAnswer
-    ensures { λ r. ⌜ ((t : Told SideInfo) → t ≡ refuse why → Answers noSide (r .verdict) (r .info) t) ⌝ }
+    ensures { λ r. ⌜ ((t : Told SideInfo) → t ≡ refused why → Answers noSide (r .verdict) (r .info) t) ⌝ }
 {
     let a = absent_record();
     let slots = [a; 4];

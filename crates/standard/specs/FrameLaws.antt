@@ -11,8 +11,7 @@ use lib.ListN.{length, take, drop, length-append}
 use lib.Seq.{take-at}
 use Rattle.standard.specs.Told.{Told, refused, told, toldOr}
 use Rattle.standard.specs.ToldLaws.{picked, passed, either-left, either-right, neither}
-use Rattle.standard.specs.Refusals.{numberOf, toldVerdict, toldSlot}
-use Rattle.standard.specs.RefusalsLaws.{apart, one-verdict, one-slot, one-list}
+use Rattle.standard.specs.RefusalsLaws.{unlike}
 use Rattle.standard.specs.Header.{headerOf, headerSize, sideSize, mainSize, frameLength, noHeader, isHeader}
 use Rattle.standard.specs.SideInfo.{sideOf, noSide, isSide}
 use Rattle.standard.specs.Slots.{Outcome, slotsOf, slotsTold, numbersFrom, readSlots, SlotsRead}
@@ -31,15 +30,15 @@ use Rattle.standard.specs.declared.Refusal.the-variants.{UnfitMemory, Ab
 
 -- ---- the call
 module _ (s lent : List ℕ) (stated d : ℕ) where
-  pub call-few-bytes : length lent < 4096 → frameCall s lent stated d ≡ noStep (numberOf UnfitMemory)
+  pub call-few-bytes : length lent < 4096 → frameCall s lent stated d ≡ noStep UnfitMemory
   unfolding frameCall unfit
   call-few-bytes h = picked _ (either-left (ltb d 2304) (either-left (ltb 4096 stated) (lt-ltb (length lent) 4096 h)))
 
-  pub call-much-stated : 4096 < stated → frameCall s lent stated d ≡ noStep (numberOf UnfitMemory)
+  pub call-much-stated : 4096 < stated → frameCall s lent stated d ≡ noStep UnfitMemory
   unfolding frameCall unfit
   call-much-stated h = picked _ (either-left (ltb d 2304) (either-right (ltb (length lent) 4096) (lt-ltb 4096 stated h)))
 
-  pub call-few-numbers : d < 2304 → frameCall s lent stated d ≡ noStep (numberOf UnfitMemory)
+  pub call-few-numbers : d < 2304 → frameCall s lent stated d ≡ noStep UnfitMemory
   unfolding frameCall
   call-few-numbers h = picked _ (either-right (unfit lent stated) (lt-ltb d 2304 h))
 
@@ -48,12 +47,12 @@ module _ (s lent : List ℕ) (stated d : ℕ) where
   call-fits a b c = passed _ (neither (neither (le-ltb (length lent) 4096 a) (le-ltb 4096 stated b)) (le-ltb d 2304 c))
 
 -- ---- a refused frame tells nothing and changes nothing
-pub step-refused : {lent left : List ℕ} {old : Reservoir} {d nums : List ℤ} {p : Step} {r : FrameAnswer} {why : Refusal} → p ≡ noStep (numberOf why)
-    → (r .verdict ≡ Refused why) × (r .header ≡ noHeader) × (r .info ≡ noSide) × (r .length ≡ 0) × (map toldSlot (r .slots) ≡ slotsTold []) × (r .reservoir ≡ old)
+pub step-refused : {lent left : List ℕ} {old : Reservoir} {d nums : List ℤ} {p : Step} {r : FrameAnswer} {why : Refusal} → p ≡ noStep why
+    → (r .verdict ≡ Refused why) × (r .header ≡ noHeader) × (r .info ≡ noSide) × (r .length ≡ 0) × (r .slots ≡ slotsTold []) × (r .reservoir ≡ old)
     → left ≡ lent → nums ≡ d → FrameRead lent old d p r left nums
 unfolding noStep reservoirAfter bytesAfter numbersFrom
 step-refused {lent} {left} {old} {d} e a l n = record {
-  verdict = ap toldVerdict (a .0) ∙ sym (ap (λ (x : Step). x .verdict) e);
+  verdict = (a .0) ∙ sym (ap (λ (x : Step). x .verdict) e);
   header = a .1 ∙ sym (ap (λ (x : Step). x .header) e);
   info = a .2 ∙ sym (ap (λ (x : Step). x .info) e);
   length-is = a .3 ∙ sym (ap (λ (x : Step). x .length) e);
@@ -65,17 +64,17 @@ step-refused {lent} {left} {old} {d} e a l n = record {
 
 -- ---- the stages
 module _ (s old : List ℕ) where
-  pub frame-no-header : {k : ℕ} → headerOf s ≡ refused k → frameOf s old ≡ noStep k
+  pub frame-no-header : {r : Refusal} → headerOf s ≡ refused r → frameOf s old ≡ noStep r
   unfolding frameOf withHeader
   frame-no-header e = ap (withHeader s old) e
 
   module _ {h : FrameHeader} (e : headerOf s ≡ told h) where
-    pub frame-no-side : {k : ℕ} → sideOf h s ≡ refused k → frameOf s old ≡ noStep k
+    pub frame-no-side : {r : Refusal} → sideOf h s ≡ refused r → frameOf s old ≡ noStep r
     unfolding frameOf withHeader withSide
     frame-no-side f = ap (withHeader s old) e ∙ ap (withSide h s old) f
 
     module _ {i : SideInfo} (f : sideOf h s ≡ told i) where
-      pub frame-absent : length s < frameLength h → frameOf s old ≡ noStep (numberOf AbsentBytes)
+      pub frame-absent : length s < frameLength h → frameOf s old ≡ noStep AbsentBytes
       unfolding frameOf withHeader withSide
       frame-absent l = ap (withHeader s old) e ∙ ap (withSide h s old) f ∙ picked _ (lt-ltb (length s) (frameLength h) l)
 
@@ -101,12 +100,12 @@ module _ {lent left : List ℕ} {old : Reservoir} {a : ReservoirAnswer} where
   module _ {h : FrameHeader} {i : SideInfo} {p : Step} {r : FrameAnswer} {d nums : List ℤ} where
     -- too short a reservoir: all but the slots is told, and no number changes
     pub step-short : (t : Turn) {why : Refusal} → p ≡ withTurn h i t → Turned lent old (told t) a left → a .verdict ≡ Refused why
-        → (r .verdict ≡ Refused why) × (r .header ≡ h) × (r .info ≡ i) × (r .length ≡ frameLength h) × (map toldSlot (r .slots) ≡ slotsTold []) × (r .reservoir ≡ a .reservoir)
+        → (r .verdict ≡ Refused why) × (r .header ≡ h) × (r .info ≡ i) × (r .length ≡ frameLength h) × (r .slots ≡ slotsTold []) × (r .reservoir ≡ a .reservoir)
         → nums ≡ d → FrameRead lent old d p r left nums
     unfolding withTurn shortStep turnVerdict turnKept numbersFrom
-    step-short (reached bs) e u v w n = apart (sym (ap toldVerdict v) ∙ u .verdict)
+    step-short (reached bs) e u v w n = unlike (sym v ∙ u .verdict)
     step-short (short bs) e u v w n = record {
-      verdict = ap toldVerdict (w .0 ∙ sym v) ∙ u .verdict ∙ sym (ap (λ (x : Step). x .verdict) e);
+      verdict = (w .0 ∙ sym v) ∙ u .verdict ∙ sym (ap (λ (x : Step). x .verdict) e);
       header = w .1 ∙ sym (ap (λ (x : Step). x .header) e);
       info = w .2 ∙ sym (ap (λ (x : Step). x .info) e);
       length-is = w .3 ∙ sym (ap (λ (x : Step). x .length) e);
@@ -122,18 +121,18 @@ module _ {lent left : List ℕ} {old : Reservoir} {a : ReservoirAnswer} where
         → (r .verdict ≡ Accepted) × (r .header ≡ h) × (r .info ≡ i) × (r .length ≡ frameLength h) × (r .slots ≡ q .slots) × (r .reservoir ≡ a .reservoir)
         → FrameRead lent old d p r left nums
     unfolding withTurn fullStep turnVerdict turnKept reservoirAfter bytesAfter toldOr
-    step-full (short bs) e u v l x y z w = apart (sym (u .verdict) ∙ ap toldVerdict v)
+    step-full (short bs) e u v l x y z w = unlike (sym (u .verdict) ∙ v)
     step-full (reached bs) e u v l x y z w =
         let n : a .reservoir .length ≡ length bs = ap (λ (c : Reservoir). c .length) (u .reservoir) in
         let kept : take (a .reservoir .length) left ≡ bs = (λ j. take (n j) (u .bytes j)) ∙ take-at bs (drop (length bs) lent) (length bs) refl in
         let said : readSlots h i (take (a .reservoir .length) left) (length d) ≡ told (slotsOf h i bs) =
         ap (λ (c : List ℕ). readSlots h i c (length d)) kept ∙ read-call h i bs (length d) l x y in
         record {
-          verdict = ap toldVerdict (w .0) ∙ sym (ap (λ (x : Step). x .verdict) e);
+          verdict = (w .0) ∙ sym (ap (λ (x : Step). x .verdict) e);
           header = w .1 ∙ sym (ap (λ (x : Step). x .header) e);
           info = w .2 ∙ sym (ap (λ (x : Step). x .info) e);
           length-is = w .3 ∙ sym (ap (λ (x : Step). x .length) e);
-          slots = ap (map toldSlot) (w .4) ∙ z .slots ∙ ap (λ (c : Told (List Outcome)). slotsTold (toldOr [] c)) said ∙ sym (ap (λ (x : Step). slotsTold (x .slots)) e);
+          slots = (w .4) ∙ z .slots ∙ ap (λ (c : Told (List Outcome)). slotsTold (toldOr [] c)) said ∙ sym (ap (λ (x : Step). slotsTold (x .slots)) e);
           reservoir = w .5 ∙ u .reservoir ∙ sym (ap (λ (x : Step). reservoirAfter old (x .kept)) e);
           bytes = u .bytes ∙ sym (ap (λ (x : Step). bytesAfter lent (x .kept)) e);
           numbers-are = z .numbers ∙ ap (λ (c : Told (List Outcome)). numbersFrom 0 (toldOr [] c) d) said ∙ sym (ap (λ (x : Step). numbersFrom 0 (x .slots) d) e);
@@ -143,11 +142,11 @@ module _ {lent left : List ℕ} {old : Reservoir} {a : ReservoirAnswer} where
 pub one-frame : {lent left gone : List ℕ} {old : Reservoir} {d nums news : List ℤ} {p : Step} {r q : FrameAnswer}
     → FrameRead lent old d p r left nums → FrameRead lent old d p q gone news → (r ≡ q) × (left ≡ gone) × (nums ≡ news)
 one-frame {r = r} {q = q} a b =
-    let v = one-verdict (r .verdict) (q .verdict) (a .verdict ∙ sym (b .verdict)) in
+    let v = a .verdict ∙ sym (b .verdict) in
     let h = a .header ∙ sym (b .header) in
     let i = a .info ∙ sym (b .info) in
     let n = a .length-is ∙ sym (b .length-is) in
-    let s = one-list toldSlot one-slot (r .slots) (q .slots) (a .slots ∙ sym (b .slots)) in
+    let s = a .slots ∙ sym (b .slots) in
     let k = a .reservoir ∙ sym (b .reservoir) in (
       λ j. record { verdict = v j; header = h j; info = i j; length = n j; slots = s j; reservoir = k j },
       a .bytes ∙ sym (b .bytes),

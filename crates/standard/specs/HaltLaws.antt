@@ -124,7 +124,9 @@ module _ (ok : Refusal → Bool) (word : Reader) (allows : Allows ok word) where
   quads-ok : (t n : ℕ) (b : List Bool) → ok-numbers (quads word t n b) ≡ true
   unfolding quads quadOf ok-numbers
   quads-ok t zero b = refl
-  quads-ok t (suc n) b = then-quads (quadOf word t b) _ (word-quad b (word t b) (allows .alien t b)) (λ u. quads-ok t n (drop u b))
+  quads-ok t (suc n) [] = refl
+  quads-ok t (suc n) (x ∷ b) =
+      then-quads (quadOf word t (x ∷ b)) _ (word-quad (x ∷ b) (word t (x ∷ b)) (allows .alien t (x ∷ b))) (λ u. quads-ok t n (drop u (x ∷ b)))
 
   rest-ok : (t n : ℕ) (q : Numbers) → ok-numbers q ≡ true → ok-numbers (thenRest word t n q) ≡ true
   unfolding thenRest ok-numbers

@@ -6,7 +6,6 @@ use Prim.Native.Nat.{ℕ, _+_, _-_, _*_, _/_, _%_}
 use lib.Dec.{ltb, leb, eqb}
 use lib.ListN.{length, getD}
 use Rattle.standard.specs.Told.{Told, refused, told, pick}
-use Rattle.standard.specs.Refusals.{refuse}
 use Rattle.standard.specs.Bits.{one}
 use Rattle.standard.specs.Rows.{member}
 use Rattle.standard.specs.declared.MpegVersion.{MpegVersion}
@@ -104,25 +103,25 @@ fields b1 b2 b3 =
 -- the third and fourth byte, needed together
 unfoldable pub lastBytes : List ℕ → Told FrameHeader
 lastBytes s =
-    pick (eqb (getD s 2 0 / 16) 0) (refuse FreeBitrate)
-    (pick (eqb (getD s 2 0 / 16) 15 || eqb (getD s 2 0 / 4 % 4) 3) (refuse ForbiddenRate)
-    (pick (eqb (getD s 3 0 % 4) 2) (refuse ReservedEmphasis)
-    (pick (eqb (getD s 1 0 % 2) 0 && leb (length s) 5) (refuse AbsentBytes)
+    pick (eqb (getD s 2 0 / 16) 0) (refused FreeBitrate)
+    (pick (eqb (getD s 2 0 / 16) 15 || eqb (getD s 2 0 / 4 % 4) 3) (refused ForbiddenRate)
+    (pick (eqb (getD s 3 0 % 4) 2) (refused ReservedEmphasis)
+    (pick (eqb (getD s 1 0 % 2) 0 && leb (length s) 5) (refused AbsentBytes)
     (told (fields (getD s 1 0) (getD s 2 0) (getD s 3 0))))))
 
 unfoldable pub secondByte : List ℕ → Told FrameHeader
 secondByte s =
-    pick (ltb (getD s 1 0) 224) (refuse NoSync)
-    (pick (eqb (getD s 1 0 / 8 % 4) 1) (refuse ReservedVersion)
-    (pick (eqb (getD s 1 0 / 2 % 4) 0) (refuse ReservedLayer)
-    (pick (not (eqb (getD s 1 0 / 2 % 4) 1)) (refuse OtherLayer)
-    (pick (leb (length s) 3) (refuse AbsentBytes) (lastBytes s)))))
+    pick (ltb (getD s 1 0) 224) (refused NoSync)
+    (pick (eqb (getD s 1 0 / 8 % 4) 1) (refused ReservedVersion)
+    (pick (eqb (getD s 1 0 / 2 % 4) 0) (refused ReservedLayer)
+    (pick (not (eqb (getD s 1 0 / 2 % 4) 1)) (refused OtherLayer)
+    (pick (leb (length s) 3) (refused AbsentBytes) (lastBytes s)))))
 
 unfoldable pub headerOf : List ℕ → Told FrameHeader
 headerOf s =
-    pick (leb (length s) 0) (refuse AbsentBytes)
-    (pick (not (eqb (getD s 0 0) 255)) (refuse NoSync)
-    (pick (leb (length s) 1) (refuse AbsentBytes) (secondByte s)))
+    pick (leb (length s) 0) (refused AbsentBytes)
+    (pick (not (eqb (getD s 0 0) 255)) (refused NoSync)
+    (pick (leb (length s) 1) (refused AbsentBytes) (secondByte s)))
 
 -- ---- which headers bytes read to: those whose bitrate and rate are their version's
 unfoldable pub sameBitrate : BitRate → BitRate → Bool

@@ -254,28 +254,28 @@ fields-known b1 b2 b3 l p q r =
 last-known : (s : List ℕ) (h : FrameHeader) → Bytes s → lastBytes s ≡ told h → isHeader h ≡ true
 unfolding lastBytes
 last-known s h b e =
-    let p = no-refusal (eqb (getD s 2 0 / 16) 0) 7 _ h e in
-    let q = no-refusal (eqb (getD s 2 0 / 16) 15 || eqb (getD s 2 0 / 4 % 4) 3) 8 _ h (p .1) in
+    let p = no-refusal (eqb (getD s 2 0 / 16) 0) _ _ h e in
+    let q = no-refusal (eqb (getD s 2 0 / 16) 15 || eqb (getD s 2 0 / 4 % 4) 3) _ _ h (p .1) in
     let r = neither-of (eqb (getD s 2 0 / 16) 15) (eqb (getD s 2 0 / 4 % 4) 3) (q .0) in
-    let u = no-refusal _ 2 _ h (no-refusal _ 9 _ h (q .1) .1) .1 in
+    let u = no-refusal _ _ _ h (no-refusal _ _ _ h (q .1) .1) .1 in
     subst (λ (x : FrameHeader). isHeader x ≡ true) (told-is u)
     (fields-known (getD s 1 0) (getD s 2 0) (getD s 3 0) (b 2) (eqb-false _ _ (p .0)) (eqb-false _ _ (r .0)) (eqb-false _ _ (r .1)))
 
 second-known : (s : List ℕ) (h : FrameHeader) → Bytes s → secondByte s ≡ told h → isHeader h ≡ true
 unfolding secondByte
 second-known s h b e =
-    let e1 = no-refusal _ 3 _ h e .1 in
-    let e2 = no-refusal _ 4 _ h e1 .1 in
-    let e3 = no-refusal _ 5 _ h e2 .1 in
-    let e4 = no-refusal _ 6 _ h e3 .1 in
-    last-known s h b (no-refusal _ 2 _ h e4 .1)
+    let e1 = no-refusal _ _ _ h e .1 in
+    let e2 = no-refusal _ _ _ h e1 .1 in
+    let e3 = no-refusal _ _ _ h e2 .1 in
+    let e4 = no-refusal _ _ _ h e3 .1 in
+    last-known s h b (no-refusal _ _ _ h e4 .1)
 
 pub header-known : (s : List ℕ) (h : FrameHeader) → Bytes s → headerOf s ≡ told h → isHeader h ≡ true
 unfolding headerOf
 header-known s h b e =
-    let e1 = no-refusal _ 2 _ h e .1 in
-    let e2 = no-refusal _ 3 _ h e1 .1 in
-    second-known s h b (no-refusal _ 2 _ h e2 .1)
+    let e1 = no-refusal _ _ _ h e .1 in
+    let e2 = no-refusal _ _ _ h e1 .1 in
+    second-known s h b (no-refusal _ _ _ h e2 .1)
 
 -- THE STATEMENT: a header is accepted exactly when some bytes read to it
 pub header-read : (h : FrameHeader) → (isHeader h ≡ true) ↔ ((s : List ℕ) × Bytes s × (headerOf s ≡ told h))

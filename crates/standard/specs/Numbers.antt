@@ -145,10 +145,11 @@ thenQuads NoQuad rest = halted NoCodeword
 thenQuads Dropped rest = got [] []
 thenQuads (Four v w x y u) rest = prepend (v ∷ w ∷ x ∷ y ∷ []) (rest u)
 
--- at most n quads
+-- at most n quads, as long as bits are left
 unfoldable pub quads : Reader → ℕ → ℕ → List Bool → Numbers
 quads word t zero b = got [] b
-quads word t (suc n) b = thenQuads (quadOf word t b) (λ (u : ℕ). quads word t n (drop u b))
+quads word t (suc n) [] = got [] []
+quads word t (suc n) (x ∷ b) = thenQuads (quadOf word t (x ∷ b)) (λ (u : ℕ). quads word t n (drop u (x ∷ b)))
 
 -- quads as long as four numbers fit among the 576
 unfoldable pub thenRest : Reader → ℕ → ℕ → Numbers → Numbers

@@ -225,19 +225,35 @@ module _ (word : Reader) (table : ℕ → ℕ) (k n : ℕ) (b : List Bool) where
   unfolding pairs thenPairs
   pairs-two x y u e = ap (λ (p : Pair). thenPairs p (λ (u : ℕ). pairs word table (suc k) n (drop u b))) (sym e)
 
-module _ (word : Reader) (t n : ℕ) (b : List Bool) where
-  pub quads-none : NoQuad ≡ quadOf word t b → quads word t (suc n) b ≡ halted NoCodeword
-  unfolding quads thenQuads
-  quads-none e = ap (λ (q : Quad). thenQuads q (λ (u : ℕ). quads word t n (drop u b))) (sym e)
+module _ (word : Reader) (t n : ℕ) where
+  pub quads-end : (b : List Bool) → length b ≡ 0 → quads word t n b ≡ got [] []
+  unfolding quads
+  quads-end b e = go n b e
+    where
+      go : (n : ℕ) (b : List Bool) → length b ≡ 0 → quads word t n b ≡ got [] []
+      go zero [] e = refl
+      go (suc n) [] e = refl
+      go n (x ∷ b) e = absurd (omega arith)
 
-  pub quads-dropped : Dropped ≡ quadOf word t b → quads word t (suc n) b ≡ got [] []
-  unfolding quads thenQuads
-  quads-dropped e = ap (λ (q : Quad). thenQuads q (λ (u : ℕ). quads word t n (drop u b))) (sym e)
+  -- where a bit is left
+  quads-step : (b : List Bool) (q : Quad) → 0 < length b → q ≡ quadOf word t b → quads word t (suc n) b ≡ thenQuads q (λ (u : ℕ). quads word t n (drop u b))
+  unfolding quads
+  quads-step [] q h e = absurd (omega arith)
+  quads-step (x ∷ b) q h e = ap (λ (q : Quad). thenQuads q (λ (u : ℕ). quads word t n (drop u (x ∷ b)))) (sym e)
 
-  pub quads-four : (v w x y : ℤ) (u : ℕ) → Four v w x y u ≡ quadOf word t b
-      → quads word t (suc n) b ≡ prepend (v ∷ w ∷ x ∷ y ∷ []) (quads word t n (drop u b))
-  unfolding quads thenQuads
-  quads-four v w x y u e = ap (λ (q : Quad). thenQuads q (λ (u : ℕ). quads word t n (drop u b))) (sym e)
+  module _ (b : List Bool) (h : 0 < length b) where
+    pub quads-none : NoQuad ≡ quadOf word t b → quads word t (suc n) b ≡ halted NoCodeword
+    unfolding thenQuads
+    quads-none e = quads-step b NoQuad h e
+
+    pub quads-dropped : Dropped ≡ quadOf word t b → quads word t (suc n) b ≡ got [] []
+    unfolding thenQuads
+    quads-dropped e = quads-step b Dropped h e
+
+    pub quads-four : (v w x y : ℤ) (u : ℕ) → Four v w x y u ≡ quadOf word t b
+        → quads word t (suc n) b ≡ prepend (v ∷ w ∷ x ∷ y ∷ []) (quads word t n (drop u b))
+    unfolding thenQuads
+    quads-four v w x y u e = quads-step b (Four v w x y u) h e
 
 -- ---- a slot by place
 module _ (word : Reader) (rate : SampleRate) (r : SlotRecord) (s : List ℕ) (at e : ℕ) where
@@ -309,8 +325,9 @@ module _ (word : Reader) (fits : ReaderFits word) where
   pub quads-bounded : (t n : ℕ) (b : List Bool) → Gives (AtMost (4 * n)) (quads word t n b)
   unfolding quads every
   quads-bounded t zero b = record { count = omega arith; sizes = refl }
-  quads-bounded t (suc n) b =
-      then-quads n (length b) (λ (u : ℕ). quads word t n (drop u b)) (λ u. quads-bounded t n (drop u b)) (quadOf word t b) (quad-fits word fits t b)
+  quads-bounded t (suc n) [] = record { count = omega arith; sizes = refl }
+  quads-bounded t (suc n) (x ∷ b) =
+      then-quads n (length (x ∷ b)) (λ (u : ℕ). quads word t n (drop u (x ∷ b))) (λ u. quads-bounded t n (drop u (x ∷ b))) (quadOf word t (x ∷ b)) (quad-fits word fits t (x ∷ b))
 
   then-rest : (t n : ℕ) → n ≤ 288 → (q : Numbers) → Gives (Exactly (2 * n)) q → Gives (AtMost 576) (thenRest word t n q)
   unfolding thenRest

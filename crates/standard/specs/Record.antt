@@ -7,8 +7,7 @@ use lib.Dec.{ltb, leb, eqb}
 use lib.IntN.{pos}
 use lib.Ieee.{Float, binary32, ofInt}
 use lib.ListN.{getD}
-use Rattle.standard.specs.Told.{Told, told, pick}
-use Rattle.standard.specs.Refusals.{refuse}
+use Rattle.standard.specs.Told.{Told, told, pick, refused}
 use Rattle.standard.specs.Rows.{place}
 use Rattle.standard.specs.Same.{sameFloat}
 use Rattle.standard.specs.Bits.{field, flag}
@@ -112,10 +111,10 @@ switchedOf mpeg1 c t b =
 -- big_values above 288; in a switched window block type 0, and then the mixed flag
 unfoldable pub recordIn : Bool → ℕ → List Bool → Told SlotRecord
 recordIn mpeg1 c b =
-    pick (ltb 288 (field b 12 9)) (refuse TooManyPairs)
+    pick (ltb 288 (field b 12 9)) (refused TooManyPairs)
     (pick (not (flag b (29 + c))) (told (longOf mpeg1 c b))
-    (pick (eqb (field b (30 + c) 2) 0) (refuse ForbiddenBlock)
-    (pick (flag b (32 + c)) (refuse MixedBlock)
+    (pick (eqb (field b (30 + c) 2) 0) (refused ForbiddenBlock)
+    (pick (flag b (32 + c)) (refused MixedBlock)
     (told (switchedOf mpeg1 c (blockOf (field b (30 + c) 2)) b)))))
 
 unfoldable pub recordOf : Bool → List Bool → Told SlotRecord

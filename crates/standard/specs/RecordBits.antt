@@ -22,6 +22,7 @@ use Rattle.standard.specs.Written.{Part, _in-bits_, write, Fit, fit-appe
 use Rattle.standard.specs.Record.{gainOf, compressWidth, recordWidth, blockOf, isShort, isLong, region0Of, region1Of, preflagOf, scaleAt, count1At, longOf, switchedOf, recordIn, recordOf, gainsRow, gainNumber, gainBelow, trio, below, isLongBody, isSwitchedBody, isPreflag, isHead, isRecord}
 use Rattle.standard.specs.declared.BlockType.{BlockType}
 use Rattle.standard.specs.declared.BlockType.the-variants.{Long, Start, Short, End}
+use Rattle.standard.specs.declared.Refusal.the-variants.{ForbiddenBlock, MixedBlock}
 use Rattle.standard.specs.declared.SlotRecord.{SlotRecord}
 
 -- ---- the eight gains
@@ -361,15 +362,15 @@ block-switched (suc (suc (suc (suc n)))) h k = absurd (omega arith)
 pub record-known : (mpeg1 : Bool) (b : List Bool) (r : SlotRecord) → recordOf mpeg1 b ≡ told r → isRecord mpeg1 r ≡ true
 unfolding recordOf recordIn
 record-known mpeg1 b r e0 =
-    let p = no-refusal (ltb 288 (field b 12 9)) 10 _ r e0 in
+    let p = no-refusal (ltb 288 (field b 12 9)) _ _ r e0 in
     go (ltb-false _ _ (p .0)) (not (flag b (29 + compressWidth mpeg1))) (p .1)
   where
-    go : field b 12 9 ≤ 288 → (l : Bool) → pick l (told (longOf mpeg1 (compressWidth mpeg1) b)) (pick (eqb (field b (30 + compressWidth mpeg1) 2) 0) (refused 11) (pick (flag b (32 + compressWidth mpeg1)) (refused 12) (told (switchedOf mpeg1 (compressWidth mpeg1) (blockOf (field b (30 + compressWidth mpeg1) 2)) b)))) ≡ told r → isRecord mpeg1 r ≡ true
+    go : field b 12 9 ≤ 288 → (l : Bool) → pick l (told (longOf mpeg1 (compressWidth mpeg1) b)) (pick (eqb (field b (30 + compressWidth mpeg1) 2) 0) (refused ForbiddenBlock) (pick (flag b (32 + compressWidth mpeg1)) (refused MixedBlock) (told (switchedOf mpeg1 (compressWidth mpeg1) (blockOf (field b (30 + compressWidth mpeg1) 2)) b)))) ≡ told r → isRecord mpeg1 r ≡ true
     go l true e = subst (λ (x : SlotRecord). isRecord mpeg1 x ≡ true) (told-is (sym (picked _ refl) ∙ e)) (long-known mpeg1 b l)
     go l false e =
         let c = compressWidth mpeg1 in
-        let p = no-refusal (eqb (field b (30 + c) 2) 0) 11 _ r (sym (passed _ refl) ∙ e) in
-        let q = no-refusal (flag b (32 + c)) 12 _ r (p .1) in
+        let p = no-refusal (eqb (field b (30 + c) 2) 0) _ _ r (sym (passed _ refl) ∙ e) in
+        let q = no-refusal (flag b (32 + c)) _ _ r (p .1) in
         subst (λ (x : SlotRecord). isRecord mpeg1 x ≡ true) (told-is (q .1))
         (switched-known mpeg1 b l (blockOf (field b (30 + c) 2)) (block-switched (field b (30 + c) 2) (field-lt b (30 + c) 2) (eqb-false _ _ (p .0))))
 

@@ -5,8 +5,7 @@ use Prim.Native.Nat.{ℕ, zero, suc, _+_, _-_, _*_}
 use lib.Dec.{ltb}
 use lib.IntN.{ℤ, pos}
 use lib.ListN.{length, getD, take, drop}
-use Rattle.standard.specs.Told.{Told, told, pick}
-use Rattle.standard.specs.Refusals.{refuse}
+use Rattle.standard.specs.Told.{Told, told, pick, refused}
 use Rattle.standard.specs.Bands.{rowOf, shortRows}
 use Rattle.standard.specs.Header.{isMpeg1, isHeader}
 use Rattle.standard.specs.Record.{isShort, isRecord}
@@ -39,5 +38,5 @@ reordered rate r d = pick (isShort (r .block)) (gathered (orderOf rate) (take 57
 
 unfoldable pub reorderOf : FrameHeader → SlotRecord → List ℤ → Told (List ℤ)
 reorderOf h r d =
-    pick (ltb (length d) 576) (refuse UnfitMemory)
-    (pick (isHeader h && isRecord (isMpeg1 (h .version)) r) (told (reordered (h .rate) r d)) (refuse MadeUpRecord))
+    pick (ltb (length d) 576) (refused UnfitMemory)
+    (pick (isHeader h && isRecord (isMpeg1 (h .version)) r) (told (reordered (h .rate) r d)) (refused MadeUpRecord))

@@ -13,9 +13,8 @@ use lib.Seq.{drop-cons, drop-drop, drop-at, take-at}
 use Rattle.standard.specs.Bands.{rowOf, shortRows, shortStart}
 use Rattle.standard.specs.BandsLaws.{row-lt}
 use Rattle.standard.specs.RowsLaws.{every, every-in, rows-long}
-use Rattle.standard.specs.Told.{told}
+use Rattle.standard.specs.Told.{told, refused}
 use Rattle.standard.specs.ToldLaws.{never, both-of, both, picked, passed}
-use Rattle.standard.specs.Refusals.{refuse}
 use Rattle.standard.specs.Header.{isMpeg1, isHeader}
 use Rattle.standard.specs.Record.{isShort, isRecord}
 use Rattle.standard.specs.Reorder.{bandOrder, orderFrom, orderOf, gathered, reordered, reorderOf}
@@ -234,12 +233,12 @@ module _ (r : SampleRate) where
 
 -- ---- what the call comes to
 module _ (h : FrameHeader) (r : SlotRecord) (d : List ℤ) where
-  pub few-numbers : length d < 576 → reorderOf h r d ≡ refuse UnfitMemory
+  pub few-numbers : length d < 576 → reorderOf h r d ≡ refused UnfitMemory
   unfolding reorderOf
   few-numbers k = picked _ (lt-ltb (length d) 576 k)
 
   module _ (k : 576 ≤ length d) where
-    pub made-up : isHeader h && isRecord (isMpeg1 (h .version)) r ≡ false → reorderOf h r d ≡ refuse MadeUpRecord
+    pub made-up : isHeader h && isRecord (isMpeg1 (h .version)) r ≡ false → reorderOf h r d ≡ refused MadeUpRecord
     unfolding reorderOf
     made-up e = passed _ (le-ltb (length d) 576 k) ∙ passed _ e
 

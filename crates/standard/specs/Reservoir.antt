@@ -6,10 +6,11 @@ use Prim.Native.Nat.{ℕ, _+_, _-_}
 use lib.Dec.{ltb}
 use lib.ListN.{length, take, drop}
 use Rattle.standard.specs.Told.{Told, refused, told, pick}
-use Rattle.standard.specs.Refusals.{refuse, toldVerdict}
 use Rattle.standard.specs.declared.Reservoir.{Reservoir}
 use Rattle.standard.specs.declared.ReservoirAnswer.{ReservoirAnswer}
 use Rattle.standard.specs.declared.Refusal.the-variants.{UnfitMemory, ShortReservoir}
+use Rattle.standard.specs.declared.Verdict.{Verdict}
+use Rattle.standard.specs.declared.Verdict.the-variants.{Accepted, Refused}
 
 -- the last main_data_begin bytes of the reservoir, then the frame's main data
 unfoldable pub reaching : ℕ → List ℕ → List ℕ → List ℕ
@@ -49,12 +50,12 @@ unfit lent stated = ltb (length lent) 4096 || ltb 4096 stated
 -- the call, of which no frame's main data is too long for the memory
 unfoldable pub turnIn : List ℕ → ℕ → ℕ → List ℕ → Told Turn
 turnIn lent stated begin main =
-    pick (unfit lent stated || ltb 4096 (begin + length main)) (refuse UnfitMemory) (told (turnOf begin (take stated lent) main))
+    pick (unfit lent stated || ltb 4096 (begin + length main)) (refused UnfitMemory) (told (turnOf begin (take stated lent) main))
 
-unfoldable pub turnVerdict : Told Turn → Told (Unit {0})
-turnVerdict (refused k) = refused k
-turnVerdict (told (short bs)) = refuse ShortReservoir
-turnVerdict (told (reached bs)) = told tt
+unfoldable pub turnVerdict : Told Turn → Verdict
+turnVerdict (refused r) = Refused r
+turnVerdict (told (short bs)) = Refused ShortReservoir
+turnVerdict (told (reached bs)) = Accepted
 
 unfoldable pub turnKept : Told Turn → Kept
 turnKept (refused k) = untouched
@@ -63,7 +64,7 @@ turnKept (told (reached bs)) = keeping bs
 
 -- what a turn answers, and the lent bytes after it
 pub record Turned (lent : List ℕ) (old : Reservoir) (t : Told Turn) (r : ReservoirAnswer) (left : List ℕ) : Type 0 where
-  pub verdict : toldVerdict (r .verdict) ≡ turnVerdict t
+  pub verdict : r .verdict ≡ turnVerdict t
   pub reservoir : r .reservoir ≡ reservoirAfter old (turnKept t)
   pub bytes : left ≡ bytesAfter lent (turnKept t)
 

@@ -7,10 +7,8 @@ use borrow.Author.Tests.{lt-ltb, le-ltb}
 use lib.Dec.{ltb}
 use lib.ListN.{length, take, drop, length-append, length-drop}
 use lib.Seq.{paste, drop-paste, drop-drop, take-at, take-length, length-take-le}
-use Rattle.standard.specs.Told.{Told, told}
+use Rattle.standard.specs.Told.{Told, told, refused}
 use Rattle.standard.specs.ToldLaws.{picked, passed, either-left, either-right, neither}
-use Rattle.standard.specs.Refusals.{refuse, toldVerdict}
-use Rattle.standard.specs.RefusalsLaws.{one-verdict}
 use Rattle.standard.specs.CopyLaws.{take-drop}
 use Rattle.standard.specs.Reservoir.{reaching, adding, Turn, short, reached, turnOf, keeping, reservoirAfter, bytesAfter, unfit, turnIn, turnVerdict, turnKept, Turned}
 use Rattle.standard.specs.declared.Reservoir.{Reservoir}
@@ -20,15 +18,15 @@ use Rattle.standard.specs.declared.Refusal.the-variants.{UnfitMemory}
 
 module _ (lent : List ℕ) (stated begin : ℕ) (main : List ℕ) where
   -- ---- refused for the memory
-  pub few-lent : length lent < 4096 → turnIn lent stated begin main ≡ refuse UnfitMemory
+  pub few-lent : length lent < 4096 → turnIn lent stated begin main ≡ refused UnfitMemory
   unfolding turnIn unfit
   few-lent h = picked _ (either-left _ (either-left _ (lt-ltb _ _ h)))
 
-  pub much-stated : 4096 < stated → turnIn lent stated begin main ≡ refuse UnfitMemory
+  pub much-stated : 4096 < stated → turnIn lent stated begin main ≡ refused UnfitMemory
   unfolding turnIn unfit
   much-stated h = picked _ (either-left (ltb 4096 (begin + length main)) (either-right (ltb (length lent) 4096) (lt-ltb 4096 stated h)))
 
-  pub too-long : 4096 < begin + length main → turnIn lent stated begin main ≡ refuse UnfitMemory
+  pub too-long : 4096 < begin + length main → turnIn lent stated begin main ≡ refused UnfitMemory
   unfolding turnIn
   too-long h = picked _ (either-right (unfit lent stated) (lt-ltb 4096 (begin + length main) h))
 
@@ -93,18 +91,18 @@ module _ (lent : List ℕ) (stated begin : ℕ) (main : List ℕ) where
               ∙ drop-drop (length main) begin lent
 
 -- ---- the answers
-pub unfit-turned : {lent : List ℕ} {old : Reservoir} {t : Told Turn} {r : ReservoirAnswer} {left : List ℕ} → t ≡ refuse UnfitMemory
+pub unfit-turned : {lent : List ℕ} {old : Reservoir} {t : Told Turn} {r : ReservoirAnswer} {left : List ℕ} → t ≡ refused UnfitMemory
     → (r .verdict ≡ Refused UnfitMemory) × (r .reservoir ≡ old) → left ≡ lent → Turned lent old t r left
 unfolding turnVerdict turnKept reservoirAfter bytesAfter
 unfit-turned {lent} {old} e a l = record {
-  verdict = ap toldVerdict (a .0) ∙ sym (ap turnVerdict e);
+  verdict = (a .0) ∙ sym (ap turnVerdict e);
   reservoir = a .1 ∙ sym (ap (λ (u : Told Turn). reservoirAfter old (turnKept u)) e);
   bytes = l ∙ sym (ap (λ (u : Told Turn). bytesAfter lent (turnKept u)) e);
 }
 
 -- a turn that changed the reservoir: what is answered of it, and the new length and bytes
 pub changed-turned : {lent : List ℕ} {old : Reservoir} {t u : Told Turn} {bs : List ℕ} {r : ReservoirAnswer} {left : List ℕ} {n : ℕ} → t ≡ u
-    → turnKept u ≡ keeping bs → toldVerdict (r .verdict) ≡ turnVerdict u → r .reservoir ≡ record { length = n } → length bs ≡ n
+    → turnKept u ≡ keeping bs → r .verdict ≡ turnVerdict u → r .reservoir ≡ record { length = n } → length bs ≡ n
     → left ≡ bytesAfter lent (keeping bs) → Turned lent old t r left
 unfolding reservoirAfter
 changed-turned {lent} {old} {bs = bs} e k v a m l = record {
@@ -117,6 +115,6 @@ changed-turned {lent} {old} {bs = bs} e k v a m l = record {
 pub one-turn : {lent left gone : List ℕ} {old : Reservoir} {t : Told Turn} {r q : ReservoirAnswer} → Turned lent old t r left → Turned lent old t q gone
     → (r ≡ q) × (left ≡ gone)
 one-turn {r = r} {q = q} a b =
-    let v = one-verdict (r .verdict) (q .verdict) (a .verdict ∙ sym (b .verdict)) in
+    let v = a .verdict ∙ sym (b .verdict) in
     let k = a .reservoir ∙ sym (b .reservoir) in
     (λ j. record { verdict = v j; reservoir = k j }, a .bytes ∙ sym (b .bytes))

@@ -271,7 +271,7 @@ in-known mpeg1 two b i l e =
 from-known : (mpeg1 two : Bool) (from : ℕ) (s : List ℕ) (i : SideInfo) → sideFrom mpeg1 two from s ≡ told i → isSideBy mpeg1 two i ≡ true
 unfolding sideFrom
 from-known mpeg1 two from s i e =
-    in-known mpeg1 two (bits s (8 * from) (8 * sideBytes mpeg1 two)) i (length-bits s (8 * from) (8 * sideBytes mpeg1 two)) (no-refusal _ 2 _ i e .1)
+    in-known mpeg1 two (bits s (8 * from) (8 * sideBytes mpeg1 two)) i (length-bits s (8 * from) (8 * sideBytes mpeg1 two)) (no-refusal _ _ _ i e .1)
 
 -- ---- the beginning of a frame: the bytes of a header, and then of side information
 beginning : FrameHeader → SideInfo → List ℕ

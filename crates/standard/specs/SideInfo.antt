@@ -6,7 +6,6 @@ use Prim.Native.Nat.{ℕ, zero, suc, _+_, _-_, _*_, _^_}
 use lib.Dec.{ltb, eqb}
 use lib.ListN.{length, take, drop, replicate}
 use Rattle.standard.specs.Told.{Told, refused, told, pick}
-use Rattle.standard.specs.Refusals.{refuse}
 use Rattle.standard.specs.Bits.{bits, field}
 use Rattle.standard.specs.Header.{isMpeg1, isTwo, isHeader, headerSize, sideBytes, granulesIn, channelsIn}
 use Rattle.standard.specs.Record.{absent, recordOf, recordWidth, isRecord, isLong, gainBelow, below, trio}
@@ -70,12 +69,12 @@ sideIn mpeg1 two b =
 -- from the frame's bytes, of which the header takes the first `from`
 unfoldable pub sideFrom : Bool → Bool → ℕ → List ℕ → Told SideInfo
 sideFrom mpeg1 two from s =
-    pick (ltb (length s) (from + sideBytes mpeg1 two)) (refuse AbsentBytes)
+    pick (ltb (length s) (from + sideBytes mpeg1 two)) (refused AbsentBytes)
     (sideIn mpeg1 two (bits s (8 * from) (8 * sideBytes mpeg1 two)))
 
 unfoldable pub sideOf : FrameHeader → List ℕ → Told SideInfo
 sideOf h s =
-    pick (isHeader h) (sideFrom (isMpeg1 (h .version)) (isTwo (h .channels)) (headerSize h) s) (refuse MadeUpRecord)
+    pick (isHeader h) (sideFrom (isMpeg1 (h .version)) (isTwo (h .channels)) (headerSize h) s) (refused MadeUpRecord)
 
 -- what a refusal's answer has in the place of side information
 unfoldable pub noSide : SideInfo

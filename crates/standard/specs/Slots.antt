@@ -8,8 +8,7 @@ use lib.Dec.{ltb, leb, eqb}
 use lib.IntN.{ℤ}
 use lib.ListN.{length, getD, take, drop, replicate}
 use lib.Seq.{paste}
-use Rattle.standard.specs.Told.{Told, told, pick, toldOr, verdictOf}
-use Rattle.standard.specs.Refusals.{numberOf, refuse, toldVerdict, SlotTold, lacking, refusedBy, counted, toldSlot}
+use Rattle.standard.specs.Told.{Told, told, pick, toldOr, verdictOf, refused}
 use Rattle.standard.specs.Bits.{bits}
 use Rattle.standard.specs.Codes.{wordOf}
 use Rattle.standard.specs.Header.{isMpeg1, isIntensity, isHeader, granules, channelCount}
@@ -24,6 +23,8 @@ use Rattle.standard.specs.declared.SlotRecord.{SlotRecord}
 use Rattle.standard.specs.declared.SideInfo.{SideInfo}
 use Rattle.standard.specs.declared.Refusal.{Refusal}
 use Rattle.standard.specs.declared.Refusal.the-variants.{UnfitMemory, MadeUpRecord, MissingBits, FactorOverrun, LostShare}
+use Rattle.standard.specs.declared.SlotAnswer.{SlotAnswer}
+use Rattle.standard.specs.declared.SlotOutcome.the-variants.{Read, NotRead, Lacking}
 
 -- a slot's outcome: refused for a reason; or its long and short factors, and its numbers up to the count
 pub data Outcome : Type 0 where
@@ -74,9 +75,13 @@ settingOf h i n r =
       shares = sharesOf h i n r;
     }
 
--- the slot of the same channel in the granule before; of granule 0 nothing is shared
+-- in granule 0: no slot before it that could be lost, and nothing to share
+unfoldable pub alone : Outcome
+alone = holds (replicate 22 0) (replicate 39 0) []
+
+-- the slot of the same channel in the granule before
 unfoldable pub mateOf : FrameHeader → List Outcome → Outcome
-mateOf h done = getD done (length done - channelCount h) (stopped MissingBits)
+mateOf h done = pick (ltb (length done) (channelCount h)) alone (getD done (length done - channelCount h) alone)
 
 -- a slot that starts at a bit place of the main data s
 unfoldable pub slotIn : List ℕ → ℕ → Setting → SlotRecord → Bool → List ℕ → Outcome
@@ -97,15 +102,15 @@ unfoldable pub slotsOf : FrameHeader → SideInfo → List ℕ → List Outcome
 slotsOf h i s = slotsFrom h i s 0 [] (take (granules h * channelCount h) (i .slots))
 
 -- ---- what is answered
-unfoldable pub slotTold : Outcome → SlotTold
-slotTold (stopped r) = record { said = refusedBy (numberOf r); long = replicate 22 0; short = replicate 39 0 }
-slotTold (holds long short vs) = record { said = counted (length vs); long = long; short = short }
+unfoldable pub slotTold : Outcome → SlotAnswer
+slotTold (stopped r) = record { outcome = NotRead r; long = replicate 22 0; short = replicate 39 0 }
+slotTold (holds long short vs) = record { outcome = Read (length vs); long = long; short = short }
 
-unfoldable pub lackingSlot : SlotTold
-lackingSlot = record { said = lacking; long = replicate 22 0; short = replicate 39 0 }
+unfoldable pub lackingSlot : SlotAnswer
+lackingSlot = record { outcome = Lacking; long = replicate 22 0; short = replicate 39 0 }
 
 -- four answers: the slots', and then lacking ones
-unfoldable pub slotsTold : List Outcome → List SlotTold
+unfoldable pub slotsTold : List Outcome → List SlotAnswer
 slotsTold os = map slotTold os ++ replicate (4 - length os) lackingSlot
 
 -- the lent numbers after a slot, its own being the 576 from a place on: a refused slot changes none
@@ -120,12 +125,12 @@ numbersFrom at (o ∷ os) d = numbersFrom (at + 576) os (numbersAfter o at d)
 
 -- what is answered of the slots, and the lent numbers after them
 pub record SlotsRead (d : List ℤ) (t : Told (List Outcome)) (r : SlotsAnswer) (left : List ℤ) : Type 0 where
-  pub verdict : toldVerdict (r .verdict) ≡ verdictOf t
-  pub slots : map toldSlot (r .slots) ≡ slotsTold (toldOr [] t)
+  pub verdict : r .verdict ≡ verdictOf t
+  pub slots : r .slots ≡ slotsTold (toldOr [] t)
   pub numbers : left ≡ numbersFrom 0 (toldOr [] t) d
 
 -- ---- the call on main data of any length, with d numbers lent
 unfoldable pub readSlots : FrameHeader → SideInfo → List ℕ → ℕ → Told (List Outcome)
 readSlots h i s d =
-    pick (ltb d 2304) (refuse UnfitMemory)
-    (pick (isHeader h && isSide h i) (told (slotsOf h i s)) (refuse MadeUpRecord))
+    pick (ltb d 2304) (refused UnfitMemory)
+    (pick (isHeader h && isSide h i) (told (slotsOf h i s)) (refused MadeUpRecord))

@@ -12,10 +12,8 @@ use borrow.Author.Tests.{le-leb, lt-leb, lt-ltb, le-ltb}
 use lib.IntN.{ℤ}
 use lib.ListN.{length, getD, take, drop, replicate, length-append, length-replicate, List·getD-map}
 use lib.Seq.{length-paste, drop-paste, take-take, drop-drop, take-at, drop-at, length-take-le}
-use Rattle.standard.specs.Told.{Told, told, toldOr, verdictOf}
+use Rattle.standard.specs.Told.{Told, told, toldOr, verdictOf, refused}
 use Rattle.standard.specs.ToldLaws.{picked, passed, never, both}
-use Rattle.standard.specs.Refusals.{refuse, toldVerdict, SlotTold, toldSlot}
-use Rattle.standard.specs.RefusalsLaws.{one-verdict, one-slot, one-list}
 use Rattle.standard.specs.Bits.{bits}
 use Rattle.standard.specs.BitsLaws.{bits-append}
 use Rattle.standard.specs.CopyLaws.{take-drop}
@@ -253,11 +251,11 @@ own-bits xs ys at bt g r lost old h k e = slotIn-read xs at g r lost old h ∙ a
 
 -- ---- what the call comes to
 module _ (h : FrameHeader) (i : SideInfo) (s : List ℕ) (n : ℕ) where
-  pub few-numbers : n < 2304 → readSlots h i s n ≡ refuse UnfitMemory
+  pub few-numbers : n < 2304 → readSlots h i s n ≡ refused UnfitMemory
   unfolding readSlots
   few-numbers k = picked _ (lt-ltb n 2304 k)
 
-  pub made-up-call : 2304 ≤ n → isHeader h && isSide h i ≡ false → readSlots h i s n ≡ refuse MadeUpRecord
+  pub made-up-call : 2304 ≤ n → isHeader h && isSide h i ≡ false → readSlots h i s n ≡ refused MadeUpRecord
   unfolding readSlots
   made-up-call k e = passed _ (le-ltb n 2304 k) ∙ passed _ e
 
@@ -265,20 +263,20 @@ module _ (h : FrameHeader) (i : SideInfo) (s : List ℕ) (n : ℕ) where
   unfolding readSlots
   read-call k e f = passed _ (le-ltb n 2304 k) ∙ picked _ (both e f)
 
-pub slots-refused : {d left : List ℤ} {t : Told (List Outcome)} {r : SlotsAnswer} {why : Refusal} → t ≡ refuse why
-    → (r .verdict ≡ Refused why) × (map toldSlot (r .slots) ≡ slotsTold []) → left ≡ d → SlotsRead d t r left
+pub slots-refused : {d left : List ℤ} {t : Told (List Outcome)} {r : SlotsAnswer} {why : Refusal} → t ≡ refused why
+    → (r .verdict ≡ Refused why) × (r .slots ≡ slotsTold []) → left ≡ d → SlotsRead d t r left
 unfolding verdictOf toldOr numbersFrom
 slots-refused {d = d} e a l = record {
-  verdict = ap toldVerdict (a .0) ∙ sym (ap verdictOf e);
+  verdict = (a .0) ∙ sym (ap verdictOf e);
   slots = a .1 ∙ sym (ap (λ (x : Told (List Outcome)). slotsTold (toldOr [] x)) e);
   numbers = l ∙ sym (ap (λ (x : Told (List Outcome)). numbersFrom 0 (toldOr [] x) d) e);
 }
 
 pub slots-told : {d left : List ℤ} {t : Told (List Outcome)} {os : List Outcome} {r : SlotsAnswer} → t ≡ told os → r .verdict ≡ Accepted
-    → (map toldSlot (r .slots) ≡ slotsTold os) × (left ≡ numbersFrom 0 os d) → SlotsRead d t r left
+    → (r .slots ≡ slotsTold os) × (left ≡ numbersFrom 0 os d) → SlotsRead d t r left
 unfolding verdictOf toldOr
 slots-told {d = d} e v a = record {
-  verdict = ap toldVerdict v ∙ sym (ap verdictOf e);
+  verdict = v ∙ sym (ap verdictOf e);
   slots = a .0 ∙ sym (ap (λ (x : Told (List Outcome)). slotsTold (toldOr [] x)) e);
   numbers = a .1 ∙ sym (ap (λ (x : Told (List Outcome)). numbersFrom 0 (toldOr [] x) d) e);
 }
@@ -286,12 +284,12 @@ slots-told {d = d} e v a = record {
 -- ---- one answer and one state
 pub one-slots : {d left gone : List ℤ} {t : Told (List Outcome)} {r q : SlotsAnswer} → SlotsRead d t r left → SlotsRead d t q gone → (r ≡ q) × (left ≡ gone)
 one-slots {r = r} {q = q} a b =
-    let v = one-verdict (r .verdict) (q .verdict) (a .verdict ∙ sym (b .verdict)) in
-    let s = one-list toldSlot one-slot (r .slots) (q .slots) (a .slots ∙ sym (b .slots)) in
+    let v = a .verdict ∙ sym (b .verdict) in
+    let s = a .slots ∙ sym (b .slots) in
     (λ j. record { verdict = v j; slots = s j }, a .numbers ∙ sym (b .numbers))
 
 -- ---- what is answered of the n-th slot
-told-from : (os : List Outcome) (l : List SlotTold) (n : ℕ) (o : Outcome) (z : SlotTold) → n < length os → getD (map slotTold os ++ l) n z ≡ slotTold (getD os n o)
+told-from : (os : List Outcome) (l : List SlotAnswer) (n : ℕ) (o : Outcome) (z : SlotAnswer) → n < length os → getD (map slotTold os ++ l) n z ≡ slotTold (getD os n o)
 told-from [] l n o z h = absurd (omega arith)
 told-from (x ∷ os) l zero o z h = refl
 told-from (x ∷ os) l (suc n) o z h = told-from os l n o z (omega arith)
@@ -307,15 +305,15 @@ lacking-from (x ∷ os) k (suc n) h = lacking-from os k n (omega arith)
 abbrev pub lackingAnswer : SlotAnswer
 lackingAnswer = record { outcome = Lacking; long = replicate 22 0; short = replicate 39 0 }
 
-module _ (l : List SlotAnswer) (os : List Outcome) (e : map toldSlot l ≡ slotsTold os) (n : ℕ) where
-  at-slot : toldSlot (getD l n lackingAnswer) ≡ getD (slotsTold os) n lackingSlot
+module _ (l : List SlotAnswer) (os : List Outcome) (e : l ≡ slotsTold os) (n : ℕ) where
+  at-slot : getD l n lackingAnswer ≡ getD (slotsTold os) n lackingSlot
   unfolding lackingSlot
-  at-slot = sym (List·getD-map toldSlot l n lackingAnswer) ∙ ap (λ (m : List SlotTold). getD m n (toldSlot lackingAnswer)) e
+  at-slot = ap (λ (m : List SlotAnswer). getD m n lackingAnswer) e
 
-  pub told-at : n < length os → toldSlot (getD l n lackingAnswer) ≡ slotTold (getD os n (stopped MissingBits))
+  pub told-at : n < length os → getD l n lackingAnswer ≡ slotTold (getD os n (stopped MissingBits))
   unfolding slotsTold
   told-at h = at-slot ∙ told-from os (replicate (4 - length os) lackingSlot) n (stopped MissingBits) lackingSlot h
 
-  pub lacking-at : length os ≤ n → toldSlot (getD l n lackingAnswer) ≡ lackingSlot
+  pub lacking-at : length os ≤ n → getD l n lackingAnswer ≡ lackingSlot
   unfolding slotsTold
   lacking-at h = at-slot ∙ lacking-from os (4 - length os) n h

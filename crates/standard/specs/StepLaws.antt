@@ -12,7 +12,6 @@ use lib.Dec.{ltb, eqb}
 use lib.ListN.{length, take, drop, length-append, length-take, length-drop}
 use Rattle.standard.specs.Told.{Told, refused, told, pick}
 use Rattle.standard.specs.ToldLaws.{picked, passed, never, either-way}
-use Rattle.standard.specs.Refusals.{numberOf}
 use Rattle.standard.specs.Written.{Bytes}
 use Rattle.standard.specs.Header.{lastBytes, secondByte, headerOf, headerSize, sideSize, mainSize, frameLength}
 use Rattle.standard.specs.HeaderBytes.{header-known}
@@ -28,14 +27,16 @@ use Rattle.standard.specs.FrameLaws.{call-few-numbers, frame-no-header, 
 use Rattle.standard.specs.declared.FrameHeader.{FrameHeader}
 use Rattle.standard.specs.declared.SlotRecord.{SlotRecord}
 use Rattle.standard.specs.declared.SideInfo.{SideInfo}
-use Rattle.standard.specs.declared.Refusal.the-variants.{UnfitMemory}
+use Rattle.standard.specs.declared.Refusal.the-variants.{UnfitMemory, AbsentBytes, ShortReservoir}
+use Rattle.standard.specs.declared.Refusal.{Refusal}
+use Rattle.standard.specs.Refusals.{numberOf}
 
 -- ---- neither header nor side information is refused by 13
 other : {A : Type 0} → Told A → Bool
-other (refused k) = not (eqb k 13)
+other (refused r) = not (eqb (numberOf r) 13)
 other (told a) = true
 
-pick-other : {A : Type 0} (b : Bool) (k : ℕ) (t : Told A) → not (eqb k 13) ≡ true → other t ≡ true → other (pick b (refused k) t) ≡ true
+pick-other : {A : Type 0} (b : Bool) (r : Refusal) (t : Told A) → not (eqb (numberOf r) 13) ≡ true → other t ≡ true → other (pick b (refused r) t) ≡ true
 unfolding pick other
 pick-other true k t e f = e
 pick-other false k t e f = f
@@ -43,15 +44,15 @@ pick-other false k t e f = f
 header-other : (s : List ℕ) → other (headerOf s) ≡ true
 unfolding headerOf secondByte lastBytes other
 header-other s =
-    pick-other _ 2 _ refl (pick-other _ 3 _ refl (pick-other _ 2 _ refl
-    (pick-other _ 3 _ refl (pick-other _ 4 _ refl (pick-other _ 5 _ refl (pick-other _ 6 _ refl (pick-other _ 2 _ refl
-    (pick-other _ 7 _ refl (pick-other _ 8 _ refl (pick-other _ 9 _ refl (pick-other _ 2 _ refl refl)))))))))))
+    pick-other _ _ _ refl (pick-other _ _ _ refl (pick-other _ _ _ refl
+    (pick-other _ _ _ refl (pick-other _ _ _ refl (pick-other _ _ _ refl (pick-other _ _ _ refl (pick-other _ _ _ refl
+    (pick-other _ _ _ refl (pick-other _ _ _ refl (pick-other _ _ _ refl (pick-other _ _ _ refl refl)))))))))))
 
 record-other : (mpeg1 : Bool) (b : List Bool) → other (recordOf mpeg1 b) ≡ true
 unfolding recordOf recordIn other
 record-other mpeg1 b =
-    pick-other _ 10 _ refl
-    (either-way (λ (t : Told SlotRecord). other t ≡ true) _ _ _ (λ e. refl) (λ e. pick-other _ 11 _ refl (pick-other _ 12 _ refl refl)))
+    pick-other _ _ _ refl
+    (either-way (λ (t : Told SlotRecord). other t ≡ true) _ _ _ (λ e. refl) (λ e. pick-other _ _ _ refl (pick-other _ _ _ refl refl)))
 
 then-other : (t : Told SlotRecord) (ts : Told (List SlotRecord)) → other t ≡ true → other ts ≡ true → other (thenRecords t ts) ≡ true
 unfolding thenRecords other
@@ -72,7 +73,7 @@ slots-other mpeg1 two b (told rs) e = refl
 side-other : (h : FrameHeader) (s : List ℕ) → other (sideOf h s) ≡ true
 unfolding sideOf sideFrom sideIn other
 side-other h s =
-    either-way (λ (t : Told SideInfo). other t ≡ true) _ _ _ (λ e. pick-other _ 2 _ refl (slots-other _ _ _ _ (records-other _ _ _))) (λ e. refl)
+    either-way (λ (t : Told SideInfo). other t ≡ true) _ _ _ (λ e. pick-other _ _ _ refl (slots-other _ _ _ _ (records-other _ _ _))) (λ e. refl)
 
 -- ---- the three ways
 -- the main data of a frame's bytes
@@ -86,14 +87,14 @@ pub record Entire (s : List ℕ) (h : FrameHeader) (i : SideInfo) : Type 0 where
   pub there : frameLength h ≤ length s
 
 pub data Way (s old : List ℕ) (p : Step) : Type 0 where
-  refusedWay : (k : ℕ) → (k ≡ 13 → ⊥) → p ≡ noStep k → Way s old p
+  refusedWay : (r : Refusal) → (r ≡ ShortReservoir → ⊥) → p ≡ noStep r → Way s old p
   shortWay : (h : FrameHeader) (i : SideInfo) → Entire s h i → length old < i .begin → p ≡ shortStep h i (old ++ mainOf h s) → Way s old p
   fullWay : (h : FrameHeader) (i : SideInfo) → Entire s h i → i .begin ≤ length old
       → p ≡ fullStep h i (drop (length old - i .begin) old ++ mainOf h s) → Way s old p
 
-not-13 : {A : Type 0} (k : ℕ) (t : Told A) → t ≡ refused k → other t ≡ true → k ≡ 13 → ⊥
+not-13 : {A : Type 0} (r : Refusal) (t : Told A) → t ≡ refused r → other t ≡ true → r ≡ ShortReservoir → ⊥
 unfolding other
-not-13 k t e f g = never (sym (ap (λ (n : ℕ). not (eqb n 13)) g) ∙ sym (ap other e) ∙ f)
+not-13 k t e f g = never (sym (ap (λ (q : Refusal). not (eqb (numberOf q) 13)) g) ∙ sym (ap other e) ∙ f)
 
 module _ (s old : List ℕ) where
   by-turn : (h : FrameHeader) (i : SideInfo) → Entire s h i → Way s old (frameOf s old)
@@ -110,7 +111,7 @@ module _ (s old : List ℕ) where
   by-side h e (told i) f =
       elim (decLe (frameLength h) (length s)) [
         | yes l ↦ by-turn h i (record { header = e; info = f; there = l })
-        | no l ↦ refusedWay 2 (λ z. omega arith) (frame-absent s old e f (omega arith))
+        | no l ↦ refusedWay AbsentBytes (λ z. let n : _≡_ {A = ℕ} 2 13 = ap numberOf z in omega arith) (frame-absent s old e f (omega arith))
       ]
 
   by-header : (t : Told FrameHeader) → headerOf s ≡ t → Way s old (frameOf s old)
@@ -124,7 +125,7 @@ module _ (s old : List ℕ) where
 pub call-way : (s lent : List ℕ) (stated d : ℕ) → Way s (take stated lent) (frameCall s lent stated d)
 unfolding frameCall
 call-way s lent stated d =
-    either-way (Way s (take stated lent)) (unfit lent stated || ltb d 2304) _ _ (λ e. refusedWay 1 (λ z. omega arith) refl) (λ e. way s (take stated lent))
+    either-way (Way s (take stated lent)) (unfit lent stated || ltb d 2304) _ _ (λ e. refusedWay UnfitMemory (λ z. let n : _≡_ {A = ℕ} 1 13 = ap numberOf z in omega arith) refl) (λ e. way s (take stated lent))
 
 -- ---- the slots of a step have room among the numbers
 way-slots : {s old : List ℕ} {p : Step} → Way s old p → length (p .slots) ≤ 4
@@ -159,4 +160,4 @@ pub stated-only : (s lent other : List ℕ) (stated d : ℕ) → take stated len
     → frameCall s lent stated d ≡ frameCall s other stated d
 unfolding frameCall unfit
 stated-only s lent other stated d e f =
-    λ j. pick ((f j || ltb 4096 stated) || ltb d 2304) (noStep (numberOf UnfitMemory)) (frameOf s (e j))
+    λ j. pick ((f j || ltb 4096 stated) || ltb d 2304) (noStep UnfitMemory) (frameOf s (e j))

@@ -4,6 +4,7 @@ use mathlib.Core.Bool.{Bool, true, false, _&&_, _||_}
 use Prim.Native.Nat.{ℕ}
 use native.Mathlib.Omega.{arith}
 use Rattle.standard.specs.Told.{Told, refused, told, pick}
+use Rattle.standard.specs.declared.Refusal.{Refusal}
 
 pub picked : {A : Type 0} {b : Bool} {x : A} (y : A) → b ≡ true → pick b x y ≡ x
 unfolding pick
@@ -17,10 +18,10 @@ pub never : {A : Type 0} → false ≡ true → A
 never e = let z : _≡_ {A = ℕ} 0 1 = cc in let w : ⊥ = omega arith in absurd w
 
 -- where something was told, no refusal was met on the way
-pub no-refusal : {A : Type 0} (b : Bool) (k : ℕ) (y : Told A) (a : A) → pick b (refused k) y ≡ told a → (b ≡ false) × (y ≡ told a)
+pub no-refusal : {A : Type 0} (b : Bool) (r : Refusal) (y : Told A) (a : A) → pick b (refused r) y ≡ told a → (b ≡ false) × (y ≡ told a)
 unfolding pick
-no-refusal true k y a e = let z : _≡_ {A = ℕ} 0 1 = cc in let w : ⊥ = omega arith in absurd w
-no-refusal false k y a e = (refl, e)
+no-refusal true r y a e = let z : _≡_ {A = ℕ} 0 1 = cc in let w : ⊥ = omega arith in absurd w
+no-refusal false r y a e = (refl, e)
 
 pub told-is : {A : Type 0} {a b : A} → told a ≡ told b → a ≡ b
 told-is e = cc

@@ -15,13 +15,16 @@ use Rattle.standard.specs.Record.{blockOf, preflagOf, longOf, switchedOf
 use Rattle.standard.specs.SideInfo.{thenRecords, recordsOf, thenSide, sideIn, sideFrom, sideOf, noSide}
 use Rattle.standard.specs.Factors.{longPlan, shortPlan, lowPlan, planOf, planBits, factorsFrom, longFactors, shortFactors}
 use Rattle.standard.specs.Numbers.{escaped, magnitudeOf, signOf, signed, further, thenSign, numberIn, twoLast, twoFirst, twoOf, pairAfter, pairWord, pairOf, quadLast, quadFirst, quadWord, quadOf, regionsOf, tableAt, prepend, thenPairs, pairs, thenQuads, quads, thenRest, numbersBy, numbersOf, padded}
-use Rattle.standard.specs.Slots.{Outcome, stopped, holds, isStopped, longOf as longFactorsOf, anyOf, withFactors, slotBy, slotOf, sharesOf, settingOf, mateOf, slotIn, thenSlots, slotsFrom, slotsOf}
+use Rattle.standard.specs.Slots.{Outcome, stopped, holds, isStopped, longOf as longFactorsOf, anyOf, withFactors, slotBy, slotOf, sharesOf, settingOf, alone, mateOf, slotIn, thenSlots, slotsFrom, slotsOf}
 use Rattle.standard.specs.Reservoir.{Kept, untouched, keeping, reaching, adding, turnOf}
 use Rattle.standard.specs.Frame.{Step, noStep, shortStep, fullStep, withTurn, withSide, withHeader, frameOf}
 use Rattle.standard.specs.Reorder.{bandOrder, orderFrom, orderOf, gathered}
 use Rattle.standard.specs.declared.SampleRate.{SampleRate}
 use Rattle.standard.specs.declared.SampleRate.the-variants.{Hz44100}
-use Rattle.standard.specs.declared.Refusal.the-variants.{MissingBits, FactorOverrun, RegionOverrun, PairOverrun}
+use Rattle.standard.specs.declared.Refusal.the-variants.{MissingBits, FactorOverrun, RegionOverrun, PairOverrun, ShortReservoir, ReservedVersion, ReservedLayer, OtherLayer, FreeBitrate, ForbiddenRate, TooManyPairs}
+use Rattle.standard.specs.declared.Refusal.{Refusal}
+use Rattle.standard.specs.declared.Verdict.{Verdict}
+use Rattle.standard.specs.declared.Verdict.the-variants.{Accepted, Refused}
 
 -- ---- frame F and its neighbours
 abbrev pub frameF : List ℕ
@@ -51,10 +54,10 @@ reachingBack n = set frameF 4 n
 
 -- ---- a frame's step from its bytes and the reservoir's, and its parts
 unfoldable pub step : List ℕ → List ℕ → Step
-unfolding pick bitAt bits window valueFrom value field flag fieldAt member later place lowBits pair quad starts first begun decode silent table1 tableB codes published wordOf escapes escapeWidth longRows shortRows longStart shortStart slenRows slen1 slen2 rangeIn lowRange ordinaryLengths intensityLengths lowLengths lowRows lowCounts bitrates rates versionOf emphasisOf channelsOf fields lastBytes secondByte headerOf sameBitrate sameRate isHeader headerSize dataSize frameLength sideSize mainSize granules channelCount noHeader blockOf preflagOf longOf switchedOf recordIn recordOf absent thenRecords recordsOf thenSide sideIn sideFrom sideOf noSide longPlan shortPlan lowPlan planOf planBits factorsFrom longFactors shortFactors escaped magnitudeOf signOf signed further thenSign numberIn twoLast twoFirst twoOf pairAfter pairWord pairOf quadLast quadFirst quadWord quadOf regionsOf tableAt prepend thenPairs pairs thenQuads quads thenRest numbersBy numbersOf padded isStopped longFactorsOf anyOf withFactors slotBy slotOf sharesOf settingOf mateOf slotIn thenSlots slotsFrom slotsOf reaching adding turnOf noStep shortStep fullStep withTurn withSide withHeader frameOf
+unfolding pick bitAt bits window valueFrom value field flag fieldAt member later place lowBits pair quad starts first begun decode silent table1 tableB codes published wordOf escapes escapeWidth longRows shortRows longStart shortStart slenRows slen1 slen2 rangeIn lowRange ordinaryLengths intensityLengths lowLengths lowRows lowCounts bitrates rates versionOf emphasisOf channelsOf fields lastBytes secondByte headerOf sameBitrate sameRate isHeader headerSize dataSize frameLength sideSize mainSize granules channelCount noHeader blockOf preflagOf longOf switchedOf recordIn recordOf absent thenRecords recordsOf thenSide sideIn sideFrom sideOf noSide longPlan shortPlan lowPlan planOf planBits factorsFrom longFactors shortFactors escaped magnitudeOf signOf signed further thenSign numberIn twoLast twoFirst twoOf pairAfter pairWord pairOf quadLast quadFirst quadWord quadOf regionsOf tableAt prepend thenPairs pairs thenQuads quads thenRest numbersBy numbersOf padded isStopped longFactorsOf anyOf withFactors slotBy slotOf sharesOf settingOf alone mateOf slotIn thenSlots slotsFrom slotsOf reaching adding turnOf noStep shortStep fullStep withTurn withSide withHeader frameOf
 step s old = frameOf s old
 
-unfoldable pub verdict : List ℕ → Told (Unit {0})
+unfoldable pub verdict : List ℕ → Verdict
 unfolding step
 verdict s = step s [] .verdict
 
@@ -65,7 +68,7 @@ slots s = step s [] .slots
 -- ---- the starred rows
 pub data Row : Type 0 where
   -- a frame's bytes and the reservoir's: its verdict, its slots, and the bytes that are in the reservoir after it
-  ofFrame : List ℕ → List ℕ → Told (Unit {0}) → List Outcome → Kept → Row
+  ofFrame : List ℕ → List ℕ → Verdict → List Outcome → Kept → Row
   -- the slots of a frame from other main data than its own
   ofMain : List ℕ → List ℕ → List Outcome → Row
   -- the reorder at a rate: the first numbers of a short slot before it and after it
@@ -73,10 +76,10 @@ pub data Row : Type 0 where
 
 -- a frame read from an empty reservoir, and one refused
 abbrev wholly : List ℕ → Outcome → Row
-wholly s o = ofFrame s [] (told tt) (o ∷ []) (keeping mainF)
+wholly s o = ofFrame s [] Accepted (o ∷ []) (keeping mainF)
 
-abbrev refusedBy : List ℕ → ℕ → Row
-refusedBy s k = ofFrame s [] (refused k) [] untouched
+abbrev refusedFor : List ℕ → Refusal → Row
+refusedFor s r = ofFrame s [] (Refused r) [] untouched
 
 abbrev pub table : List Row
 table =
@@ -92,13 +95,13 @@ table =
     wholly (long16 4) (stopped FactorOverrun) ∷
     -- F's first five bits, 01111, are the second group of five factors, and leave none for numbers
     wholly (long16 5) (holds (replicate 7 0 ++ replicate 4 1 ++ replicate 11 0) (replicate 39 0) []) ∷
-    refusedBy (set frameF 2 0x04) 7 ∷
-    refusedBy (set frameF 2 0xF4) 8 ∷
-    refusedBy (set frameF 2 0x1C) 8 ∷
-    refusedBy (set frameF 1 0xEB) 4 ∷
-    refusedBy (set frameF 1 0xF1) 5 ∷
-    refusedBy (set frameF 1 0xF5) 6 ∷
-    ofFrame (reachingBack 1) [] (refused 13) [] (keeping mainF) ∷
+    refusedFor (set frameF 2 0x04) FreeBitrate ∷
+    refusedFor (set frameF 2 0xF4) ForbiddenRate ∷
+    refusedFor (set frameF 2 0x1C) ForbiddenRate ∷
+    refusedFor (set frameF 1 0xEB) ReservedVersion ∷
+    refusedFor (set frameF 1 0xF1) ReservedLayer ∷
+    refusedFor (set frameF 1 0xF5) OtherLayer ∷
+    ofFrame (reachingBack 1) [] (Refused ShortReservoir) [] (keeping mainF) ∷
     ofOrder Hz44100
     (pos 1 ∷ pos 2 ∷ pos 3 ∷ pos 4 ∷ pos 5 ∷ pos 6 ∷ pos 7 ∷ pos 8 ∷ pos 9 ∷ pos 10 ∷ pos 11 ∷ pos 12 ∷ [])
     (pos 1 ∷ pos 5 ∷ pos 9 ∷ pos 2 ∷ pos 6 ∷ pos 10 ∷ pos 3 ∷ pos 7 ∷ pos 11 ∷ pos 4 ∷ pos 8 ∷ pos 12 ∷ []) ∷
@@ -134,7 +137,7 @@ pub then-begin-11 : step (reachingBack 11) mainF .slots ≡ read numbersF ∷ []
 unfolding step
 then-begin-11 = refl
 
-pub then-begin-12 : step (reachingBack 12) mainF .verdict ≡ refused 13
+pub then-begin-12 : step (reachingBack 12) mainF .verdict ≡ Refused ShortReservoir
 unfolding step
 then-begin-12 = refl
 
@@ -153,11 +156,11 @@ unfolding sizes
 fffb9000 = refl
 
 -- big_values: the last three bits of byte 6 and the first six of byte 7
-pub big-values-288 : verdict (set (set frameF 6 0x44) 7 0x83) ≡ told tt
+pub big-values-288 : verdict (set (set frameF 6 0x44) 7 0x83) ≡ Accepted
 unfolding verdict
 big-values-288 = refl
 
-pub big-values-289 : verdict (set (set frameF 6 0x44) 7 0x87) ≡ refused 10
+pub big-values-289 : verdict (set (set frameF 6 0x44) 7 0x87) ≡ Refused TooManyPairs
 unfolding verdict
 big-values-289 = refl
 

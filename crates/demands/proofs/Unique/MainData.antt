@@ -1,8 +1,6 @@
 -- What no two readers may disagree on, for every public function of `main_data`: one answer and one state of the lent numbers.
 use denote.Ref.{now}
 use Rattle.standard.specs.SlotsLaws.{one-slots}
-use Rattle.standard.specs.RefusalsLaws.{one-list, one-slot}
-use Rattle.standard.specs.Refusals.{toldSlot}
 use Rattle.demands.proofs.Call.{OneState, alike, OneAnswer}
 use Rattle.main_data.proofs.read_slots.Reads as read-slots
 use Rattle.main_data.proofs.read_slots.Kinds as read-slots-kinds
@@ -13,4 +11,4 @@ pub read-slots-unique : OneState read-slots-kinds.ps read-slots-kinds.r read-slo
 read-slots-unique κs a x y s t p q = one-slots p q
 
 pub lacking-slots-unique : OneAnswer lacking-slots-kinds.ps lacking-slots-kinds.r lacking-slots.Post
-lacking-slots-unique κs a x y s t p q = one-list toldSlot one-slot x y (alike p q)
+lacking-slots-unique κs a x y s t p q = alike p q

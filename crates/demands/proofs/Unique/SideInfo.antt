@@ -1,15 +1,15 @@
 -- What no two readers may disagree on, for every public function of `side_info`: one answer for the same arguments.
 use mathlib.Core.Path.{refl}
 use Rattle.standard.specs.RefusalsLaws.{one-answer}
-use Rattle.standard.specs.Refusals.{refuse}
 use Rattle.demands.proofs.Call.{OneAnswer}
 use Rattle.side_info.proofs.read_side_info.Reads as read-side-info
 use Rattle.side_info.proofs.read_side_info.Kinds as read-side-info-kinds
 use Rattle.side_info.proofs.side.no_side.Reads as no-side
 use Rattle.side_info.proofs.side.no_side.Kinds as no-side-kinds
+use Rattle.standard.specs.Told.{refused}
 
 pub read-side-info-unique : OneAnswer read-side-info-kinds.ps read-side-info-kinds.r read-side-info.Post
 read-side-info-unique κs a x y s t p q = let e = one-answer p q in λ j. record { verdict = e .0 j; info = e .1 j }
 
 pub no-side-unique : OneAnswer no-side-kinds.ps no-side-kinds.r no-side.Post
-no-side-unique κs a x y s t p q = let e = one-answer (p (refuse (a .0)) refl) (q (refuse (a .0)) refl) in λ j. record { verdict = e .0 j; info = e .1 j }
+no-side-unique κs a x y s t p q = let e = one-answer (p (refused (a .0)) refl) (q (refused (a .0)) refl) in λ j. record { verdict = e .0 j; info = e .1 j }

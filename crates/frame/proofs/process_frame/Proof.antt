@@ -3,7 +3,7 @@
 use mathlib.Core.Path.{refl, sym, ap, _∙_, subst}
 use denote.Ref.{now}
 use lib.ListN.{length, take}
-use Rattle.standard.specs.Refusals.{refuse, toldHeader}
+use Rattle.standard.specs.Refusals.{toldHeader}
 use Rattle.standard.specs.Frame.{FrameRead}
 use Rattle.standard.specs.FrameLaws.{call-few-bytes, call-much-stated, call-few-numbers, call-fits, step-refused, frame-no-header}
 use Rattle.frame.specs.Reasons.{reasonOf}
@@ -16,6 +16,7 @@ use Rattle.frame.proofs.refusal_of.Reads as refusal-of-reads
 use Rattle.frame.proofs.refused.Reads as refused-reads
 use Rattle.frame.proofs.with_header.Reads as with-header-reads
 use Rattle.header.proofs.read_frame_header.Reads as read-frame-header-reads
+use Rattle.standard.specs.Told.{refused}
 
 refused-requires : tie.Need-refused-requires
 refused-requires c κs = search needs
@@ -53,7 +54,7 @@ refused-requires-4 c κs = search needs
 returns-4 : tie.Need-returns-4
 returns-4 c =
     let told-is = c .before .before .enum-told .given .1 in
-    let no-header = sym (c .before .before .before .before .read-frame-header .ensures) ∙ ap toldHeader told-is ∙ sym (ap refuse (c .before .refusal-of .ensures ∙ ap reasonOf told-is)) in
+    let no-header = sym (c .before .before .before .before .read-frame-header .ensures) ∙ ap toldHeader told-is ∙ sym (ap refused (c .before .refusal-of .ensures ∙ ap reasonOf told-is)) in
     step-refused
     (call-fits _ _ _ _ (c .before .before .before .before .before .before .before .before .if1 .left) (c .before .before .before .before .before .before .if2 .left) (c .before .before .before .before .before .if3 .left) ∙ frame-no-header _ _ no-header)
     (c .refused4 .ensures) refl refl

@@ -1,8 +1,7 @@
 -- `frame::refused` meets its contract: all but the reason and the reservoir is blank.
 -- Assumes nothing.
 use mathlib.Core.Path.{refl}
-use Rattle.standard.specs.Told.{toldOr}
-use Rattle.standard.specs.Refusals.{refuse}
+use Rattle.standard.specs.Told.{toldOr, refused}
 use borrow.Author.Needs.{needs}
 use Rattle.frame.proofs.refused.Statement.{statement}
 use Rattle.frame.proofs.refused.Tie as tie
@@ -23,7 +22,7 @@ lacking-slots-requires c κs = search needs
 
 returns : tie.Need-returns
 unfolding toldOr
-returns c = (refl, c .before .before .before .no-header .ensures, (c .before .before .no-side .ensures (refuse (c .before .before .before .before .args .reason)) refl) .value, refl, c .lacking-slots .ensures, refl)
+returns c = (refl, c .before .before .before .no-header .ensures, (c .before .before .no-side .ensures (refused (c .before .before .before .before .args .reason)) refl) .value, refl, c .lacking-slots .ensures, refl)
 
 pub refused-spec : {M : Type 1} → statement M
 refused-spec =

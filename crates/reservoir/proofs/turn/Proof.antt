@@ -7,7 +7,6 @@ use native.Mathlib.Omega.{arith}
 use denote.Ref.{now}
 use lib.ListN.{length, drop}
 use lib.Seq.{paste}
-use Rattle.standard.specs.Refusals.{toldVerdict}
 use Rattle.standard.specs.Reservoir.{turnKept, turnVerdict}
 use Rattle.standard.specs.ReservoirLaws.{few-lent, much-stated, too-long, short-turn, reached-turn, short-bytes, short-length, reached-length, reached-bytes, unfit-turned, changed-turned}
 use Rattle.window.specs.WindowLaws.{put-whole, slid-whole}
@@ -72,7 +71,7 @@ returns-5 c =
     let lent-fits : 4096 ≤ length lent = omega arith in
     let stated-fits : stated ≤ 4096 = omega arith in
     let fits : a .begin + length main ≤ 4096 = omega arith in
-    changed-turned (short-turn lent stated (a .begin) main lent-fits stated-fits fits (omega arith)) refl (ap toldVerdict (c .refused5 .ensures .0))
+    changed-turned (short-turn lent stated (a .begin) main lent-fits stated-fits fits (omega arith)) refl ((c .refused5 .ensures .0))
     (c .refused5 .ensures .1) (short-length lent stated (a .begin) main lent-fits stated-fits fits)
     (put-whole (c .before .before .before .put .ensures) (omega arith) ∙ short-bytes lent stated (a .begin) main lent-fits stated-fits fits)
 

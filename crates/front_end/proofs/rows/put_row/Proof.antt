@@ -5,7 +5,6 @@ use lib.ListN.{length, length-set}
 use lib.Seq.{paste}
 use mathlib.Core.List.{List}
 use Prim.Native.Nat.{ℕ, _+_}
-use Rattle.standard.specs.Refusals.{toldSlot}
 use Rattle.front_end.proofs.Laws.{same-after, same-row, row-put}
 use borrow.Author.Needs.{needs}
 use Rattle.front_end.proofs.rows.put_row.Statement.{statement}
@@ -84,7 +83,7 @@ returns c =
     let a = o .before .before .before .before .before .before .args in
     c .before .before .put-factors2 .ensures
     ∙ ap (λ (x : List ℕ). paste x (a .at + 24) (a .a .short) (length (a .a .short))) (e .before .before .before .before .put-factors .ensures)
-    ∙ row-put (a .rows .now) (a .at) (toldSlot (a .a)) (sym (slice-aggregate-put-factors o)) (sym (slice-aggregate-put-factors-2 e)) (o .before .before .before .before .before .before .pre) (o .before .before .said-of .ensures .0) (o .before .before .said-of .ensures .1)
+    ∙ row-put (a .rows .now) (a .at) (a .a) (sym (slice-aggregate-put-factors o)) (sym (slice-aggregate-put-factors-2 e)) (o .before .before .before .before .before .before .pre) (o .before .before .said-of .ensures .0) (o .before .before .said-of .ensures .1)
 
 pub put-row-spec : {M : Type 1} → statement M
 put-row-spec =

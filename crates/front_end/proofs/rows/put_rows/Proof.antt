@@ -6,7 +6,6 @@ use Prim.Native.Nat.{_+_, _-_, _*_, _≤_}
 use native.Mathlib.Omega.{arith}
 use borrow.Author.Needs.{needs}
 use lib.ListN.{length, drop}
-use Rattle.standard.specs.Refusals.{toldSlot}
 use Rattle.front_end.specs.Calls.{rowsFrom}
 use Rattle.front_end.proofs.Laws.{rows-turn, rows-end}
 use Rattle.front_end.proofs.rows.put_rows.Statement.{statement}
@@ -16,7 +15,7 @@ use Rattle.front_end.proofs.rows.put_rows.Lts as lts
 use Rattle.front_end.proofs.rows.put_row.Reads as put-row-reads
 
 abbrev Inv-loop : tie.InvT-loop
-Inv-loop rows₀ slots k₀ rows k = (k ≤ 4) × (length rows ≡ length rows₀) × (rowsFrom (63 * k) (drop k (map toldSlot slots)) rows ≡ rowsFrom 0 (map toldSlot slots) rows₀)
+Inv-loop rows₀ slots k₀ rows k = (k ≤ 4) × (length rows ≡ length rows₀) × (rowsFrom (63 * k) (drop k slots) rows ≡ rowsFrom 0 slots rows₀)
 
 abbrev μ-loop : tie.MeasureT-loop
 μ-loop rows₀ slots k₀ rows k = 4 - k
@@ -56,7 +55,7 @@ loop-again c =
     let a = o .before .before .args in (
       omega arith,
       search needs,
-      ap (rowsFrom (63 * (o .loop .k + 1)) (drop (o .loop .k + 1) (map toldSlot (a .t2)))) (c .before .before .put-row .ensures)
+      ap (rowsFrom (63 * (o .loop .k + 1)) (drop (o .loop .k + 1) (a .t2))) (c .before .before .put-row .ensures)
           ∙ rows-turn (a .t2) _ _ (o .loop .k) _ (search needs) (omega arith) (o .loop .inv .2),
     )
 

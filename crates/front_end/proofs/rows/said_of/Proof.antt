@@ -1,6 +1,5 @@
 -- `said_of` meets its contract: in each arm the outcome is the arm's. Assumes nothing.
 use mathlib.Core.Path.{sym, ap, _∙_}
-use Rattle.standard.specs.Refusals.{toldOutcome}
 use Rattle.standard.specs.declared.SlotOutcome.{SlotOutcome}
 use Rattle.front_end.specs.Calls.{saidNumber, saidCount}
 use borrow.Author.Needs.{needs}
@@ -37,8 +36,8 @@ returns c = search needs
 -- src/rows.rt:25:1
 returns-2 : tie.Need-returns-2
 returns-2 c = (
-  c .number-of .ensures ∙ sym (ap (λ (x : SlotOutcome). saidNumber (toldOutcome x)) (c .before .before .o2 .given .1)),
-  sym (ap (λ (x : SlotOutcome). saidCount (toldOutcome x)) (c .before .before .o2 .given .1)),
+  c .number-of .ensures ∙ sym (ap (λ (x : SlotOutcome). saidNumber x) (c .before .before .o2 .given .1)),
+  sym (ap (λ (x : SlotOutcome). saidCount x) (c .before .before .o2 .given .1)),
 )
 
 -- src/rows.rt:25:1

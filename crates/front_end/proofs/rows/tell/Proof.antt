@@ -2,7 +2,6 @@
 use mathlib.Core.Path.{sym, ap, _∙_}
 use mathlib.Core.List.{map}
 use denote.Ref.{now}
-use Rattle.standard.specs.Refusals.{toldVerdict, toldSlot}
 use Rattle.standard.specs.declared.Verdict.{Verdict}
 use Rattle.front_end.specs.Calls.{numberTold, rowsAfter}
 use borrow.Author.Needs.{needs}
@@ -30,8 +29,8 @@ unfolding rowsAfter
 returns c =
     let a = c .before .before .before .before .before .args in
     let given = c .before .before .verdict .given .1 in (
-      c .number-of .ensures ∙ sym (ap (λ (x : Verdict). numberTold (toldVerdict x)) given),
-      sym (ap (λ (x : Verdict). rowsAfter (toldVerdict x) (map toldSlot (a .slots)) (now (a .rows))) given),
+      c .number-of .ensures ∙ sym (ap (λ (x : Verdict). numberTold x) given),
+      sym (ap (λ (x : Verdict). rowsAfter x (a .slots) (now (a .rows))) given),
     )
 
 same-length : tie.Need-same-length
@@ -42,8 +41,8 @@ unfolding rowsAfter
 returns-2 c =
     let a = c .before .before .before .before .before .before .before .args in
     let given = c .before .before .before .before .enum-told .given .1 in (
-      sym (ap (λ (x : Verdict). numberTold (toldVerdict x)) given),
-      c .before .before .put-rows .ensures ∙ sym (ap (λ (x : Verdict). rowsAfter (toldVerdict x) (map toldSlot (a .slots)) (now (a .rows))) given),
+      sym (ap (λ (x : Verdict). numberTold x) given),
+      c .before .before .put-rows .ensures ∙ sym (ap (λ (x : Verdict). rowsAfter x (a .slots) (now (a .rows))) given),
     )
 
 pub tell-spec : {M : Type 1} → statement M

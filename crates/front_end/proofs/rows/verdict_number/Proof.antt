@@ -1,6 +1,5 @@
 -- `verdict_number` meets its contract: in each arm the verdict is the arm's. Assumes nothing.
 use mathlib.Core.Path.{sym, ap, _∙_}
-use Rattle.standard.specs.Refusals.{toldVerdict}
 use Rattle.standard.specs.declared.Verdict.{Verdict}
 use Rattle.front_end.specs.Calls.{numberTold}
 use borrow.Author.Needs.{needs}
@@ -24,7 +23,7 @@ enum-told c = search needs
 
 -- src/rows.rt:93:1
 returns : tie.Need-returns
-returns c = c .number-of .ensures ∙ sym (ap (λ (x : Verdict). numberTold (toldVerdict x)) (c .before .before .verdict .given .1))
+returns c = c .number-of .ensures ∙ sym (ap (λ (x : Verdict). numberTold x) (c .before .before .verdict .given .1))
 
 -- src/rows.rt:93:1
 returns-2 : tie.Need-returns-2

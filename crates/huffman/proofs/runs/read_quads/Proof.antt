@@ -11,7 +11,9 @@ use Rattle.standard.specs.Bits.{window}
 use Rattle.standard.specs.Numbers.{prepend, quads}
 use Rattle.codes.specs.Walk.{lookedUp}
 use Rattle.pairs.proofs.Within.{quad-within}
-use Rattle.huffman.proofs.Filling.{QuadLoop, quad-begin, quad-full, quad-dropped, quad-halt, quad-turn}
+use mathlib.Core.Logic.{inl, inr}
+use borrow.Author.Tests.{ltb-true, ltb-false}
+use Rattle.huffman.proofs.Filling.{QuadLoop, quad-begin, quad-full, quad-out, quad-dropped, quad-halt, quad-turn}
 use borrow.Author.Needs.{needs}
 use Rattle.huffman.proofs.runs.read_quads.Statement.{statement}
 use Rattle.huffman.proofs.runs.read_quads.Tie as tie
@@ -36,16 +38,16 @@ enum-told : tie.Need-enum-told Inv-loop μ-loop
 enum-told c = search needs
 
 returns : tie.Need-returns Inv-loop μ-loop
-returns c = quad-halt _ _ _ _ _ _ _ _ _ _ (c .before .before .before .before .loop .inv) (c .before .before .before .loop-test .taken) (sym (c .enum-told .given .1) ∙ c .before .before .quad .ensures)
+returns c = quad-halt _ _ _ _ _ _ _ _ _ _ (c .before .before .before .before .before .loop .inv) (c .before .before .before .before .loop-test .taken) (ltb-true _ _ (c .before .before .before .if1 .taken)) (sym (c .enum-told .given .1) ∙ c .before .before .quad .ensures)
 
 enum-told-2 : tie.Need-enum-told-2 Inv-loop μ-loop
 enum-told-2 c = search needs
 
-cast-t18 : tie.Need-cast-t18 Inv-loop μ-loop
-cast-t18 c = omega arith
+cast-t19 : tie.Need-cast-t19 Inv-loop μ-loop
+cast-t19 c = omega arith
 
 returns-2 : tie.Need-returns-2 Inv-loop μ-loop
-returns-2 c = quad-dropped _ _ _ _ _ _ _ _ _ _ (c .before .before .before .before .loop .inv) (c .before .before .before .loop-test .taken) (sym (c .enum-told2 .given .1) ∙ c .before .before .quad .ensures)
+returns-2 c = quad-dropped _ _ _ _ _ _ _ _ _ _ (c .before .before .before .before .before .loop .inv) (c .before .before .before .before .loop-test .taken) (ltb-true _ _ (c .before .before .before .if1 .taken)) (sym (c .enum-told2 .given .1) ∙ c .before .before .quad .ensures)
 
 enum-known-v : tie.Need-enum-known-v Inv-loop μ-loop
 enum-known-v c = search needs
@@ -84,7 +86,7 @@ element-set-from-y : tie.Need-element-set-from-y Inv-loop μ-loop
 element-set-from-y c = omega arith
 
 add-at : tie.Need-add-at Inv-loop μ-loop
-add-at c = omega (arith, quad-within _ _ _ _ _ _ (sym (c .before .v .given .1) ∙ c .before .before .before .quad .ensures), c .before .before .before .before .before .loop .inv .place, c .before .before .before .before .before .before .before .before .fits .end)
+add-at c = omega (arith, quad-within _ _ _ _ _ _ (sym (c .before .v .given .1) ∙ c .before .before .before .quad .ensures), c .before .before .before .before .before .before .loop .inv .place, c .before .before .before .before .before .before .before .before .before .fits .end)
 
 add-i : tie.Need-add-i Inv-loop μ-loop
 add-i c = omega arith
@@ -99,13 +101,17 @@ loop-again c =
     let fx : SFits w32 (c .before .v .given .0 .1 .1 .0) = search needs in
     let fy : SFits w32 (c .before .v .given .0 .1 .1 .1 .0) = search needs in
     rw (toZ-ofZ w32 _ fv, toZ-ofZ w32 _ fw, toZ-ofZ w32 _ fx, toZ-ofZ w32 _ fy)
-    (quad-turn _ _ _ _ _ _ _ _ _ _ (c .before .before .before .before .before .loop .inv) (c .before .before .before .before .loop-test .taken) _ _ _ _ _ (sym (c .before .v .given .1) ∙ c .before .before .before .quad .ensures) (c .before .before .before .before .before .before .before .before .fits .end .fits))
+    (quad-turn _ _ _ _ _ _ _ _ _ _ (c .before .before .before .before .before .before .loop .inv) (c .before .before .before .before .before .loop-test .taken) (ltb-true _ _ (c .before .before .before .before .if1 .taken)) _ _ _ _ _ (sym (c .before .v .given .1) ∙ c .before .before .before .quad .ensures) (c .before .before .before .before .before .before .before .before .before .fits .end .fits))
 
-cast-t29 : tie.Need-cast-t29 Inv-loop μ-loop
-cast-t29 c = omega arith
+cast-t30 : tie.Need-cast-t30 Inv-loop μ-loop
+cast-t30 c = omega arith
 
 returns-3 : tie.Need-returns-3 Inv-loop μ-loop
-returns-3 c = quad-full _ _ _ _ _ _ _ _ _ _ (c .before .loop .inv) (c .loop-test .left)
+returns-3 c =
+    elim (c .loop-test .came) [
+      | inl w ↦ quad-out _ _ _ _ _ _ _ _ _ _ (c .before .loop .inv) (ltb-false _ _ (w .1 .left))
+      | inr w ↦ quad-full _ _ _ _ _ _ _ _ _ _ (c .before .loop .inv) (w .left)
+    ]
 
 pub read-quads-spec : {M : Type 1} → statement M
 read-quads-spec =
@@ -118,7 +124,7 @@ read-quads-spec =
     enum-told
     returns
     enum-told-2
-    cast-t18
+    cast-t19
     returns-2
     enum-known-v
     mul-v
@@ -136,5 +142,5 @@ read-quads-spec =
     add-i
     loop-less
     loop-again
-    cast-t29
+    cast-t30
     returns-3)

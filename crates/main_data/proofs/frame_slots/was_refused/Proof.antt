@@ -1,6 +1,5 @@
 -- `was_refused` meets its contract: in each arm the outcome is the arm's. Assumes nothing.
 use mathlib.Core.Path.{sym, ap}
-use Rattle.standard.specs.Refusals.{toldOutcome}
 use Rattle.standard.specs.declared.SlotOutcome.{SlotOutcome}
 use Rattle.main_data.specs.Slot.{saidRefused}
 use borrow.Author.Needs.{needs}
@@ -20,15 +19,15 @@ enum-told-3 c = search needs
 
 returns : tie.Need-returns
 unfolding saidRefused
-returns c = sym (ap (λ (o : SlotOutcome). saidRefused (toldOutcome o)) (c .enum-told .given .1))
+returns c = sym (ap (λ (o : SlotOutcome). saidRefused o) (c .enum-told .given .1))
 
 returns-2 : tie.Need-returns-2
 unfolding saidRefused
-returns-2 c = sym (ap (λ (o : SlotOutcome). saidRefused (toldOutcome o)) (c .enum-told2 .given .1))
+returns-2 c = sym (ap (λ (o : SlotOutcome). saidRefused o) (c .enum-told2 .given .1))
 
 returns-3 : tie.Need-returns-3
 unfolding saidRefused
-returns-3 c = sym (ap (λ (o : SlotOutcome). saidRefused (toldOutcome o)) (c .enum-told3 .given .1))
+returns-3 c = sym (ap (λ (o : SlotOutcome). saidRefused o) (c .enum-told3 .given .1))
 
 pub was-refused-spec : {M : Type 1} → statement M
 was-refused-spec =

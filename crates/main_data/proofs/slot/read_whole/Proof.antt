@@ -6,7 +6,6 @@ use denote.Ref.{now}
 use Rattle.standard.specs.Bits.{window}
 use Rattle.standard.specs.Codes.{wordOf}
 use Rattle.standard.specs.Numbers.{Numbers, numbersOf}
-use Rattle.standard.specs.Refusals.{counted}
 use Rattle.huffman.specs.Slot.{toldCount, countOf, numbersAfter as slotLeft}
 use Rattle.main_data.proofs.Slots.{slot-factors, slot-lost, slot-numbers, stopped-read, numbers-refused, numbers-counted, huffman-numbers}
 use borrow.Author.Needs.{needs}
@@ -19,6 +18,7 @@ use Rattle.main_data.proofs.answers.not_read.Reads as not-read-reads
 use Rattle.main_data.proofs.slot.factors_of.Reads as factors-of-reads
 use Rattle.main_data.proofs.slot.share_lost.Reads as share-lost-reads
 use Rattle.scale_factors.proofs.factor_bits.Reads as factor-bits-reads
+use Rattle.standard.specs.declared.SlotOutcome.the-variants.{Read}
 
 cast-length : tie.Need-cast-length
 cast-length c = search needs
@@ -93,7 +93,7 @@ returns-4 c =
     ∙ ap (λ (n : ℕ). numbersOf wordOf (a .g .rate) (a .r) (window (now (a .main)) (a .at + n) (a .at + a .r .length))) fb in
     rw fits
     (numbers-counted _ _ _ _ _ _ _ (ap toldCount (sym (c .before .before .before .before .count .given .1)) ∙ c .before .before .before .before .before .before .before .read-huffman .ensures .0 ∙ ap countOf e) (c .before .before .before .before .before .before .before .read-huffman .ensures .1 ∙ ap (λ (q : Numbers). slotLeft q (now (a .numbers))) e)
-    (λ j. record { said = counted (c .before .before .before .before .count .given .0 .0); long = c .before .before .factors-of .ensures .long-is j; short = c .before .before .factors-of .ensures .short-is j }))
+    (λ j. record { outcome = Read (c .before .before .before .before .count .given .0 .0); long = c .before .before .factors-of .ensures .long-is j; short = c .before .before .factors-of .ensures .short-is j }))
 
 pub read-whole-spec : {M : Type 1} → statement M
 read-whole-spec =
