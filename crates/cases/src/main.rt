@@ -10,25 +10,28 @@
 //   h          the last frame's header with the rate 8 kHz, which makes it up
 mod words;
 
-use card::Card;
-use card::blank;
-use card::fill;
-use card::taken;
-use card::unread;
+use derived::is_two;
+use derived::number_of;
 use frame::process_frame;
 use header::read_frame_header;
+use input::Held;
+use input::blank;
+use input::fill;
+use input::taken;
+use input::unread;
 use io::write_all;
+use lent_bytes::least;
+use lent_bytes::put;
 use libc::STDIN_FILENO;
 use libc::STDOUT_FILENO;
 use lines::part;
 use lines::put_numbers;
 use lines::put_slots;
+use lines::text::put_number;
 use main_data::read_slots;
-use refusals::number_of;
 use reorder::reorder;
 use reservoir::emptied;
 use side_info::read_side_info;
-use sizes::is_two;
 use standard::BitRate;
 use standard::Channels;
 use standard::Emphasis;
@@ -42,9 +45,6 @@ use standard::SideInfo;
 use standard::SlotAnswer;
 use standard::SlotsAnswer;
 use standard::Verdict;
-use text::put_number;
-use window::least;
-use window::put;
 use words::bytes_from;
 use words::line_end;
 use words::number;
@@ -57,7 +57,7 @@ struct State {
     bytes: usize,
     numbers: usize,
     slot: usize,
-    pairs: usize,
+    big_values: usize,
     made_up: MadeUp,
 }
 
@@ -68,7 +68,7 @@ enum MadeUp {
 }
 
 fn say(out: &[u8], end: usize) {
-    write_all(STDOUT_FILENO, unread(out, Card { from: 0, end }));
+    write_all(STDOUT_FILENO, unread(out, Held { from: 0, end }));
 }
 
 fn put_verdict(out: &mut [u8], at: usize, v: Verdict) -> usize {
@@ -82,17 +82,17 @@ fn put_verdict(out: &mut [u8], at: usize, v: Verdict) -> usize {
 }
 
 // The bytes of a case: those in hex after the first number, then as many zeros as it says.
-fn bytes_of(text: &[u8], bytes: &mut [u8]) -> Card {
+fn bytes_of(text: &[u8], bytes: &mut [u8]) -> Held {
     let zeros = number(text, 0);
     let n = bytes_from(text, zeros.next, &mut *bytes);
     let whole = taken(
-        Card {
+        Held {
             from: n,
             end: bytes.len(),
         },
         zeros.value,
     );
-    Card {
+    Held {
         from: 0,
         end: whole.from,
     }
@@ -165,7 +165,7 @@ fn run_frame(
         bytes: state.bytes,
         numbers: state.numbers,
         slot: 0,
-        pairs: 0,
+        big_values: 0,
         made_up: MadeUp::Nothing,
     }
 }
@@ -222,14 +222,14 @@ fn with_rate(old: FrameHeader, made_up: MadeUp) -> FrameHeader {
 
 fn with_pairs(old: SideInfo, slot: usize, pairs: usize, made_up: MadeUp) -> SideInfo {
     if let MadeUp::Pairs = made_up {
-        let shares = old.shares;
+        let shares = old.scfsi;
         let mut slots = old.slots;
         let mut record = slots[slot % 4];
-        record.pairs = (pairs % 65536) as u16;
+        record.big_values = (pairs % 65536) as u16;
         slots[slot % 4] = record;
         return SideInfo {
-            begin: old.begin,
-            shares,
+            main_data_begin: old.main_data_begin,
+            scfsi: shares,
             slots,
         };
     }
@@ -240,7 +240,7 @@ fn header_of(last: &[u8], state: State) -> FrameHeader {
     let made_up = state.made_up;
     let frame = unread(
         last,
-        Card {
+        Held {
             from: 0,
             end: state.frame,
         },
@@ -252,7 +252,7 @@ fn side_of(last: &[u8], state: State) -> SideInfo {
     let made_up = state.made_up;
     let frame = unread(
         last,
-        Card {
+        Held {
             from: 0,
             end: state.frame,
         },
@@ -260,7 +260,7 @@ fn side_of(last: &[u8], state: State) -> SideInfo {
     with_pairs(
         side_in(header_in(frame), frame),
         state.slot,
-        state.pairs,
+        state.big_values,
         made_up,
     )
 }
@@ -356,7 +356,7 @@ fn run_emptied(out: &mut [u8], state: State) -> State {
         bytes: state.bytes,
         numbers: state.numbers,
         slot: 0,
-        pairs: 0,
+        big_values: 0,
         made_up: MadeUp::Nothing,
     }
 }
@@ -389,7 +389,7 @@ fn set_up(text: &[u8], c: u8, state: State) -> State {
             bytes: state.bytes,
             numbers: state.numbers,
             slot: a.value,
-            pairs: b.value,
+            big_values: b.value,
             made_up: MadeUp::Pairs,
         };
     }
@@ -399,7 +399,7 @@ fn set_up(text: &[u8], c: u8, state: State) -> State {
         bytes: state.bytes,
         numbers: state.numbers,
         slot: 0,
-        pairs: 0,
+        big_values: 0,
         made_up: MadeUp::Rate,
     }
 }
@@ -444,13 +444,13 @@ fn walk(text: &[u8], last: &mut [u8], bytes: &mut [u8], numbers: &mut [i32], out
         bytes: 4096,
         numbers: 2304,
         slot: 0,
-        pairs: 0,
+        big_values: 0,
         made_up: MadeUp::Nothing,
     };
     let mut at = 0usize;
     while at < text.len() {
         let end = line_end(text, at);
-        let line = unread(text, Card { from: at, end });
+        let line = unread(text, Held { from: at, end });
         state = run_line(
             line,
             &mut *last,
@@ -473,7 +473,7 @@ fn main() {
     let mut numbers = [0i32; 2304];
     let mut out = io::large_buffer();
     let filled = fill(STDIN_FILENO, &mut text, blank());
-    let c = filled.card;
+    let c = filled.held;
     walk(
         unread(&text, c),
         &mut last,

@@ -1,5 +1,5 @@
 // The words of a case: decimal numbers, and bytes in hex.
-use window::put;
+use lent_bytes::put;
 ghost use Prim.Native.Nat.{_≤_};
 
 pub(crate) struct Parsed {

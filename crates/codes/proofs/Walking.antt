@@ -11,7 +11,7 @@ use lib.Dec.{leb}
 use lib.ListN.{length, getD, take, length-take, List·getD-eq-default}
 use lib.Seq.{getD-take}
 use Rattle.standard.specs.ToldLaws.{picked, passed}
-use Rattle.standard.specs.Bits.{bitAt, bits, window, one, fieldAt}
+use Rattle.standard.specs.Bits.{bitAt, bits, between, one, fieldAt}
 use Rattle.standard.specs.BitsLaws.{fieldAt-cut, fieldAt-one}
 use Rattle.standard.specs.CodesLaws.{more}
 use Rattle.standard.specs.RowsLaws.{getD-within}
@@ -153,14 +153,14 @@ descent-turn t from s at link left word next e l m h q a =
 
 -- ---- what a lookup answers, of all the bits that there are
 module _ (t : List ℕ) (table : ℕ) (s : List ℕ) (at end most n link : ℕ) (m : most ≡ end - at) (l : Along t (start t table) s at n link) where
-  pub lookup-short : most < n → Cut ≡ lookedUp t table (window s at end)
-  unfolding lookedUp window
+  pub lookup-short : most < n → Cut ≡ lookedUp t table (between s at end)
+  unfolding lookedUp between
   lookup-short h = sym (l .short (end - at) (omega arith))
 
-  pub lookup-cut : isLeaf t link ≡ false → n ≡ most → Cut ≡ lookedUp t table (window s at end)
-  unfolding lookedUp window
+  pub lookup-cut : isLeaf t link ≡ false → n ≡ most → Cut ≡ lookedUp t table (between s at end)
+  unfolding lookedUp between
   lookup-cut h e = sym (ap (λ (w : ℕ). walk t (start t table) (bits s at w)) (sym (e ∙ m)) ∙ along-cut t (start t table) s at n link l h)
 
-  pub lookup-end : isLeaf t link ≡ true → n ≤ most → Coded (link % 256) n ≡ lookedUp t table (window s at end)
-  unfolding lookedUp window
+  pub lookup-end : isLeaf t link ≡ true → n ≤ most → Coded (link % 256) n ≡ lookedUp t table (between s at end)
+  unfolding lookedUp between
   lookup-end h k = sym (along-leaf t (start t table) s at n link l h (end - at) (omega arith))

@@ -7,7 +7,7 @@ use standard::Codeword;
 ghost use mathlib.Core.Path.{_≡_};
 ghost use Prim.Native.Nat.{_+_, _-_, _*_, _/_, _%_, _≤_, _<_, min};
 ghost use lib.ListN.{length, getD};
-ghost use Rattle.standard.specs.Bits.{«one», fieldAt, window};
+ghost use Rattle.standard.specs.Bits.{«one», fieldAt, between};
 ghost use Rattle.standard.specs.Codes.{escapeWidth};
 ghost use Rattle.codes.specs.Walk.{«start», lookedUp};
 ghost use Rattle.codes.specs.Along.{Along};
@@ -147,7 +147,7 @@ fn one(x: bool) -> usize
 // The next codeword of a table, from the bit place `at` on and not past `end`: by four bytes at once, whatever stands past `end`, since
 // where they led past it the bits end within a codeword; then bit by bit.
 pub fn lookup(trees: &[u16], table: usize, s: &[u8], at: usize, end: usize) -> Codeword
-    ensures { λ r. ⌜ r ≡ lookedUp (now (trees .entry)) table (window (now (s .entry)) at end) ⌝ }
+    ensures { λ r. ⌜ r ≡ lookedUp (now (trees .entry)) table (between (now (s .entry)) at end) ⌝ }
 {
     let size = reach(trees);
     let most = left(at, end);

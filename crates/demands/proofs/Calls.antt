@@ -21,19 +21,19 @@ use Rattle.side_info.proofs.read_side_info.Reads as read-side-info
 use Rattle.side_info.proofs.read_side_info.Kinds as read-side-info-kinds
 use Rattle.header.proofs.is_header.Reads as is-header
 use Rattle.header.proofs.is_header.Kinds as is-header-kinds
-use Rattle.records.proofs.is_side_info.Reads as is-side-info
-use Rattle.records.proofs.is_side_info.Kinds as is-side-info-kinds
-use Rattle.records.proofs.is_record.Reads as is-record
-use Rattle.records.proofs.is_record.Kinds as is-record-kinds
-use Rattle.sizes.proofs.main_size.Reads as main-size
-use Rattle.sizes.proofs.main_size.Kinds as main-size-kinds
+use Rattle.record_check.proofs.is_side_info.Reads as is-side-info
+use Rattle.record_check.proofs.is_side_info.Kinds as is-side-info-kinds
+use Rattle.record_check.proofs.is_record.Reads as is-record
+use Rattle.record_check.proofs.is_record.Kinds as is-record-kinds
+use Rattle.derived.proofs.main_size.Reads as main-size
+use Rattle.derived.proofs.main_size.Kinds as main-size-kinds
 use Rattle.reservoir.proofs.emptied.Reads as emptied
 use Rattle.reservoir.proofs.emptied.Kinds as emptied-kinds
 use Rattle.codes.proofs.trees.trees.Reads as trees
 use Rattle.codes.proofs.trees.trees.Kinds as trees-kinds
 use Rattle.codes.proofs.lookup.Reads as lookup
 use Rattle.codes.proofs.lookup.Kinds as lookup-kinds
-use Rattle.standard.specs.Bits.{window}
+use Rattle.standard.specs.Bits.{between}
 use Rattle.standard.specs.SlotsLaws.{lackingAnswer}
 use Rattle.standard.specs.declared.FrameHeader.{FrameHeader}
 use Rattle.standard.specs.declared.SideInfo.{SideInfo}
@@ -135,8 +135,17 @@ module _ (c : HuffmanCall) where
 abbrev pub HeaderCall : Type 0
 HeaderCall = Call read-frame-header-kinds.ps read-frame-header-kinds.r read-frame-header.Post
 
+abbrev pub headerFrame : HeaderCall → List ℕ
+headerFrame c = now (c .args .0)
+
 abbrev pub SideInfoCall : Type 0
 SideInfoCall = Call read-side-info-kinds.ps read-side-info-kinds.r read-side-info.Post
+
+abbrev pub sideHeader : SideInfoCall → FrameHeader
+sideHeader c = c .args .0
+
+abbrev pub sideFrame : SideInfoCall → List ℕ
+sideFrame c = now (c .args .1 .0)
 
 -- ---- the checks for 14: is_header(header), is_side_info(header, side information), is_record(header, record)
 abbrev pub IsHeaderCall : Type 0
@@ -171,4 +180,4 @@ module _ (c : LookupCall) where
 
   -- the bits that are there
   abbrev pub lookupBits : List Bool
-  lookupBits = window (now (c .args .1 .1 .0)) (c .args .1 .1 .1 .0) (c .args .1 .1 .1 .1 .0)
+  lookupBits = between (now (c .args .1 .1 .0)) (c .args .1 .1 .1 .0) (c .args .1 .1 .1 .1 .0)

@@ -17,10 +17,10 @@ use Rattle.standard.specs.RowsLaws.{every, every-at}
 use Rattle.standard.specs.Written.{Bytes}
 use Rattle.standard.specs.Codes.{entry, starts, published, codes, table1, pair, lowBits}
 use Rattle.standard.specs.CodesLaws.{In, here}
-use Rattle.standard.specs.Bits.{window}
+use Rattle.standard.specs.Bits.{between}
 use Rattle.standard.specs.Header.{headerOf, isMpeg1, isHeader, mainSize, noHeader}
 use Rattle.standard.specs.HeaderBytes.{header-known}
-use Rattle.standard.specs.Record.{isShort, absent, recordOf, isRecord}
+use Rattle.standard.specs.Record.{shapeOf, absent, recordOf, isRecord}
 use Rattle.standard.specs.RecordBits.{record-known}
 use Rattle.standard.specs.SideInfo.{isSide}
 use Rattle.standard.specs.SideLaws.{slot-record}
@@ -37,6 +37,7 @@ use Rattle.standard.specs.Worked.{frameF, long, reachingBack, step, slotsBy}
 use Rattle.standard.specs.declared.FrameHeader.{FrameHeader}
 use Rattle.standard.specs.declared.SideInfo.{SideInfo}
 use Rattle.standard.specs.declared.SlotRecord.{SlotRecord}
+use Rattle.standard.specs.declared.Shape.the-variants.{AllShort}
 use Rattle.standard.specs.declared.SampleRate.the-variants.{Hz44100}
 use Rattle.standard.specs.declared.Reservoir.{Reservoir}
 use Rattle.standard.specs.declared.Verdict.{Verdict}
@@ -251,11 +252,11 @@ abbrev before : List ℤ
 before = firstTwelve ++ replicate 564 (pos 0)
 
 pub short-reordered : (c : ReorderCall) × (isHeader (reorderHeader c) ≡ true) × (reorderHeader c .rate ≡ Hz44100)
-    × (isRecord (isMpeg1 (reorderHeader c .version)) (reorderRecord c) ≡ true) × (isShort (reorderRecord c .block) ≡ true) × (576 ≤ length (reorderNumbers c))
+    × (isRecord (isMpeg1 (reorderHeader c .version)) (reorderRecord c) ≡ true) × (shapeOf (reorderRecord c) ≡ AllShort) × (576 ≤ length (reorderNumbers c))
     × (take 576 (reorderNumbers c) ≡ firstTwelve ++ replicate 564 (pos 0))
 unfolding reorderCall header44 shortRecord verdictOf
 short-reordered = (
-  reorderCall header44 shortRecord before Accepted (sym (ap verdictOf (reorder-laws.short-in-order header44 shortRecord before (omega arith) header44-known short-known refl))),
+  reorderCall header44 shortRecord before Accepted (sym (ap verdictOf (reorder-laws.in-order header44 shortRecord before (omega arith) header44-known short-known))),
   header44-known,
   refl,
   short-known,
@@ -285,7 +286,7 @@ looking =
     record {
       lifetimes = ([], ([], tt));
       args = (lend trees, (1, (lend (0x80 ∷ []), (0, (1, tt)))));
-      answer = lookedUp trees 1 (window (0x80 ∷ []) 0 1);
+      answer = lookedUp trees 1 (between (0x80 ∷ []) 0 1);
       exit = (lend trees, (1, (lend (0x80 ∷ []), (0, (1, tt)))));
       promised = refl;
     }

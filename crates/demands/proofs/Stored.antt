@@ -142,7 +142,7 @@ unfolding noStep shortStep fullStep outcomeOf
 way-each P (refusedWay k m e) n none some = subst (λ (p : Step). P (getD (p .slots) n (stopped MissingBits))) (sym e) none
 way-each P (shortWay h i w l e) n none some = subst (λ (p : Step). P (getD (p .slots) n (stopped MissingBits))) (sym e) none
 way-each P {s} {old} (fullWay h i w l e) n none some =
-    subst (λ (p : Step). P (getD (p .slots) n (stopped MissingBits))) (sym e) (some h i (drop (length old - i .begin) old ++ mainOf h s) w)
+    subst (λ (p : Step). P (getD (p .slots) n (stopped MissingBits))) (sym e) (some h i (drop (length old - i .«main_data_begin») old ++ mainOf h s) w)
 
 pub each-of-frame : (P : Outcome → Type 0) → P (stopped MissingBits) → (c : FrameStep)
     → ((n : ℕ) (h : FrameHeader) (i : SideInfo) (bs : List ℕ) → Entire (frame c) h i → P (outcomeOf h i bs n)) → (n : ℕ) → P (getD (stepOf c .slots) n (stopped MissingBits))

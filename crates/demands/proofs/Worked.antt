@@ -12,17 +12,19 @@ use Rattle.standard.specs.RefusalsLaws.{unlike}
 use Rattle.standard.specs.Written.{Bytes}
 use Rattle.standard.specs.Header.{isMpeg1, isHeader}
 use Rattle.standard.specs.SideInfo.{isSide}
-use Rattle.standard.specs.Record.{isShort, isRecord}
+use Rattle.standard.specs.Record.{shapeOf, isRecord}
 use Rattle.standard.specs.Slots.{Outcome, slotsTold, numbersFrom, readSlots}
 use Rattle.standard.specs.SlotsLaws.{read-call}
 use Rattle.standard.specs.Reservoir.{Kept, reservoirAfter, bytesAfter as bytesKept}
 use Rattle.standard.specs.Frame.{Step, noStep, shortStep, fullStep, frameOf, frameCall}
 use Rattle.standard.specs.FrameLaws.{call-fits}
 use Rattle.standard.specs.StepLaws.{Way, refusedWay, shortWay, fullWay, way}
-use Rattle.standard.specs.Reorder.{gathered, orderOf}
-use Rattle.standard.specs.ReorderLaws.{short-in-order, length-order}
+use Rattle.standard.specs.Reorder.{firstShort, gathered, orderOf, reorderedFrom}
+use Rattle.standard.specs.ReorderLaws.{in-order, short-order, length-order}
 use Rattle.standard.specs.Worked.{Row, ofFrame, ofMain, ofOrder, table, step, slotsBy, ordered, IsSo, AllSo, starred}
 use Rattle.standard.specs.declared.SampleRate.{SampleRate}
+use Rattle.standard.specs.declared.Shape.{Shape}
+use Rattle.standard.specs.declared.Shape.the-variants.{AllShort}
 use Rattle.standard.specs.declared.Verdict.the-variants.{Accepted}
 use Rattle.demands.proofs.Calls.{FrameStep, frame, bytes, reservoir, numbers, bytesAfter, numbersAfter, SlotsCall, slotsHeader, slotsInfo, mainData, slotsNumbers, slotsNumbersAfter, ReorderCall, reorderHeader, reorderRecord, reorderNumbers, reorderNumbersAfter}
 use Rattle.demands.proofs.Bounds.{entire-known}
@@ -48,7 +50,7 @@ Promised (ofMain s main os) =
     → (c .answer .verdict ≡ Accepted) × (c .answer .slots ≡ slotsTold os) × (slotsNumbersAfter c ≡ numbersFrom 0 os (slotsNumbers c))
 Promised (ofOrder rate before after) =
     (c : ReorderCall) → isHeader (reorderHeader c) ≡ true → reorderHeader c .rate ≡ rate → isRecord (isMpeg1 (reorderHeader c .version)) (reorderRecord c) ≡ true
-    → isShort (reorderRecord c .block) ≡ true → 576 ≤ length (reorderNumbers c) → (rest : List ℤ) → take 576 (reorderNumbers c) ≡ before ++ rest
+    → shapeOf (reorderRecord c) ≡ AllShort → 576 ≤ length (reorderNumbers c) → (rest : List ℤ) → take 576 (reorderNumbers c) ≡ before ++ rest
     → (c .answer ≡ Accepted) × (take (length after) (take 576 (reorderNumbersAfter c)) ≡ after)
 
 -- ---- a frame
@@ -96,11 +98,13 @@ order-so : (rate : SampleRate) (before after : List ℤ) → IsSo (ofOrder rate 
 unfolding ordered verdictOf toldOr
 order-so rate before after so c known same-rate fits short enough rest first =
     let d = reorderNumbers c in
-    let t = short-in-order (reorderHeader c) (reorderRecord c) d enough known fits short in
-    let g = gathered (orderOf (reorderHeader c .rate)) (take 576 d) in (
+    let t = in-order (reorderHeader c) (reorderRecord c) d enough known fits
+    ∙ ap (λ (k : Shape). told (reorderedFrom (reorderHeader c .rate) (firstShort k) d)) short
+    ∙ ap told (short-order (reorderHeader c .rate) d) in
+    let g = gathered (orderOf (reorderHeader c .rate) 0) (take 576 d) in (
       c .promised .verdict ∙ ap verdictOf t,
       ap (λ (x : List ℤ). take (length after) (take 576 x)) (c .promised .value ∙ ap (toldOr d) t)
-          ∙ ap (take (length after)) (take-at g (drop 576 d) 576 (length-order (reorderHeader c .rate) (take 576 d)) ∙ (λ j. gathered (orderOf (same-rate j)) (first j)))
+          ∙ ap (take (length after)) (take-at g (drop 576 d) 576 (length-order (reorderHeader c .rate) (take 576 d)) ∙ (λ j. gathered (orderOf (same-rate j) 0) (first j)))
           ∙ so rest,
     )
 

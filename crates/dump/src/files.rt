@@ -33,7 +33,7 @@ fn say_file(name: [u8; 7], w: Walk) {
 // One file, which is open; answers its tries.
 fn replay_file(name: [u8; 7], input: i32) -> u64 {
     let mut out = io::large_buffer();
-    let mut window = io::large_buffer();
+    let mut piece = io::large_buffer();
     let mut bytes = io::buffer();
     let mut numbers = [0i32; 2304];
     let said = Words {
@@ -42,7 +42,7 @@ fn replay_file(name: [u8; 7], input: i32) -> u64 {
         sums: true,
         input,
     };
-    let w = run(&mut out, &mut window, &mut bytes, &mut numbers, said);
+    let w = run(&mut out, &mut piece, &mut bytes, &mut numbers, said);
     let last = flushed(&out, w, said);
     say_file(name, last);
     libc::close(input);

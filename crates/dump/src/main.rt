@@ -14,11 +14,11 @@ use libc::STDOUT_FILENO;
 
 fn dump() {
     let mut out = io::large_buffer();
-    let mut window = io::large_buffer();
+    let mut piece = io::large_buffer();
     let mut bytes = io::buffer();
     let mut numbers = [0i32; 2304];
     let said = read_words();
-    let w = run(&mut out, &mut window, &mut bytes, &mut numbers, said);
+    let w = run(&mut out, &mut piece, &mut bytes, &mut numbers, said);
     flushed(&out, w, said);
     io::write_all(STDOUT_FILENO, b"end\n");
 }

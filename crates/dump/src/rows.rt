@@ -1,26 +1,27 @@
 // A frame's answer as lines of text in lent bytes: a word and numbers, each after a space. Each function answers the place after
 // what it put.
+use derived::channel_count;
+use derived::granules;
+use derived::number_of;
+use derived::shape_of;
 use fields::header_values;
 use fields::is_told;
 use fields::record_values;
 use fields::side_values;
+use lent_bytes::least;
+use lent_bytes::put;
 use lines::part;
 use lines::put_numbers;
-use refusals::number_of;
+use lines::text::put_number;
 use reorder::reorder;
-use sizes::channel_count;
-use sizes::granules;
-use sizes::is_short;
 use standard::FrameAnswer;
 use standard::FrameHeader;
+use standard::Shape;
 use standard::SideInfo;
 use standard::SlotAnswer;
 use standard::SlotOutcome;
 use standard::SlotRecord;
 use standard::Verdict;
-use text::put_number;
-use window::least;
-use window::put;
 ghost use Prim.Native.Nat.{_<_, _≤_};
 
 // Numbers of a slot.
@@ -101,11 +102,12 @@ fn put_read(
 ) -> usize {
     let a = put_slot_factors(&mut *out, at, s);
     let b = put_signs(&mut *out, a, b"numbers", part(numbers, 0, count as usize));
-    let block = r.block;
-    if is_short(block) {
-        return put_reordered(out, b, h, r, numbers);
+    let block = r.block_type;
+    let shape = shape_of(block);
+    match shape {
+        Shape::AllLong => b,
+        Shape::AllShort => put_reordered(out, b, h, r, numbers),
     }
-    b
 }
 
 fn put_slot(

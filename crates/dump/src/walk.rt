@@ -2,22 +2,22 @@
 use crate::rows::put_answer;
 use crate::rows::put_card;
 use crate::rows::wide;
-use card::Card;
-use card::Input;
-use card::blank;
-use card::fill;
-use card::taken;
-use card::unread;
 use fields::step;
 use frame::process_frame;
+use input::Held;
+use input::Input;
+use input::blank;
+use input::fill;
+use input::taken;
+use input::unread;
+use lent_bytes::least;
 use libc::STDIN_FILENO;
 use libc::STDOUT_FILENO;
 use reservoir::emptied;
 use standard::Reservoir;
 use standard::Verdict;
-use window::least;
 
-// The longest frame and more: what a try must find in the window, unless the input has ended.
+// The longest frame and more: what a try must find held, unless the input has ended.
 const AHEAD: usize = 8192;
 
 // Where the text is written out: what one try prints finds room after it.
@@ -39,11 +39,11 @@ pub(crate) struct Words {
     pub(crate) input: i32,
 }
 
-// Where the walk is: the window over the input and whether more may come; the bytes that the present card still has, and whether
+// Where the walk is: what is held of the input and whether more may come; the bytes that the present card still has, and whether
 // they are passed over; the place in it; the reservoir; the end of the text that is not written out yet, and the sum of the text
 // before it; the next card's number; and how many tries there were.
 pub(crate) struct Walk {
-    card: Card,
+    held: Held,
     open: bool,
     left: usize,
     skip: bool,
@@ -87,7 +87,7 @@ pub(crate) fn read_words() -> Words {
 
 fn start() -> Walk {
     Walk {
-        card: blank(),
+        held: blank(),
         open: true,
         left: 0,
         skip: false,
@@ -143,15 +143,15 @@ fn is_open(input: Input) -> bool {
     }
 }
 
-// The window filled up, where too little is ahead.
-fn filled(window: &mut [u8], w: Walk, input: i32) -> Walk {
-    let c = w.card;
-    if (unread(window, c).len() < AHEAD) & w.open {
-        let f = fill(input, window, c);
+// Reads on, where too little is ahead.
+fn filled(piece: &mut [u8], w: Walk, input: i32) -> Walk {
+    let c = w.held;
+    if (unread(piece, c).len() < AHEAD) & w.open {
+        let f = fill(input, piece, c);
         let state = f.input;
-        let filled_card = f.card;
+        let filled_card = f.held;
         let mut next = w;
-        next.card = filled_card;
+        next.held = filled_card;
         next.open = is_open(state);
         return next;
     }
@@ -159,9 +159,9 @@ fn filled(window: &mut [u8], w: Walk, input: i32) -> Walk {
 }
 
 // A card of some bytes begins, with an empty reservoir.
-fn opened(out: &mut [u8], w: Walk, card: Card, left: usize) -> Walk {
+fn opened(out: &mut [u8], w: Walk, held: Held, left: usize) -> Walk {
     Walk {
-        card,
+        held,
         open: w.open,
         left,
         skip: false,
@@ -176,9 +176,9 @@ fn opened(out: &mut [u8], w: Walk, card: Card, left: usize) -> Walk {
 }
 
 // The next of many cards, if there is one.
-fn next_card(out: &mut [u8], window: &[u8], w: Walk) -> Walk {
-    let c = w.card;
-    let s = unread(window, c);
+fn next_card(out: &mut [u8], piece: &[u8], w: Walk) -> Walk {
+    let c = w.held;
+    let s = unread(piece, c);
     if s.len() < 4 {
         return finished(w);
     }
@@ -186,12 +186,12 @@ fn next_card(out: &mut [u8], window: &[u8], w: Walk) -> Walk {
     opened(out, w, taken(c, 4), left)
 }
 
-fn begin(out: &mut [u8], window: &[u8], w: Walk, said: Words) -> Walk {
+fn begin(out: &mut [u8], piece: &[u8], w: Walk, said: Words) -> Walk {
     if said.many {
-        return next_card(out, window, w);
+        return next_card(out, piece, w);
     }
     if w.number == 0 {
-        let c = w.card;
+        let c = w.held;
         return opened(out, w, c, NO_END);
     }
     finished(w)
@@ -199,19 +199,19 @@ fn begin(out: &mut [u8], window: &[u8], w: Walk, said: Words) -> Walk {
 
 // n bytes further on the card.
 fn gone(w: Walk, n: usize) -> Walk {
-    let c = w.card;
+    let c = w.held;
     let left = w.left;
     let mut next = w;
     let further = taken(c, n);
-    next.card = further;
+    next.held = further;
     next.left = left - least(n, left);
     next.place = std::num::wrapping_add_u64(w.place, n as u64);
     next
 }
 
-fn skipped(window: &[u8], w: Walk) -> Walk {
-    let c = w.card;
-    let n = least(unread(window, c).len(), w.left);
+fn skipped(piece: &[u8], w: Walk) -> Walk {
+    let c = w.held;
+    let n = least(unread(piece, c).len(), w.left);
     if n == 0 {
         return finished(w);
     }
@@ -238,14 +238,14 @@ fn tried(w: Walk, at: usize, reservoir: Reservoir, further: usize, on: bool) -> 
 // One try of the frame step.
 fn attempt(
     out: &mut [u8],
-    window: &[u8],
+    piece: &[u8],
     bytes: &mut [u8],
     numbers: &mut [i32],
     w: Walk,
     said: Words,
 ) -> Walk {
-    let c = w.card;
-    let s = unread(window, c);
+    let c = w.held;
+    let s = unread(piece, c);
     let n = least(s.len(), w.left);
     if n == 0 {
         return finished(w);
@@ -260,31 +260,31 @@ fn attempt(
     tried(w, at, reservoir, further, is_accepted(verdict) | said.on)
 }
 
-// The window and the text are seen to; then a card begins, or bytes are passed over, or a frame is tried.
+// Input and text are seen to; then a card begins, or bytes are passed over, or a frame is tried.
 fn turn(
     out: &mut [u8],
-    window: &mut [u8],
+    piece: &mut [u8],
     bytes: &mut [u8],
     numbers: &mut [i32],
     w: Walk,
     said: Words,
 ) -> Walk {
-    let a = filled(&mut *window, w, said.input);
+    let a = filled(&mut *piece, w, said.input);
     if a.left == 0 {
-        return begin(out, window, a, said);
+        return begin(out, piece, a, said);
     }
     if a.skip {
-        return skipped(window, a);
+        return skipped(piece, a);
     }
     if FULL < a.at {
         return flushed(out, a, said);
     }
-    attempt(out, window, bytes, numbers, a, said)
+    attempt(out, piece, bytes, numbers, a, said)
 }
 
 pub(crate) fn run(
     out: &mut [u8],
-    window: &mut [u8],
+    piece: &mut [u8],
     bytes: &mut [u8],
     numbers: &mut [i32],
     said: Words,
@@ -295,7 +295,7 @@ pub(crate) fn run(
         if w.done {
             return w;
         }
-        w = turn(&mut *out, &mut *window, &mut *bytes, &mut *numbers, w, said);
+        w = turn(&mut *out, &mut *piece, &mut *bytes, &mut *numbers, w, said);
         turns -= 1;
     }
     w

@@ -66,9 +66,9 @@ headerValues h =
 -- main_data_begin, and the sharing bits of channel 0 and channel 1
 unfoldable pub sideValues : SideInfo → List ℕ
 sideValues i =
-    i .begin ∷ bitOf (getD (i .shares) 0 false) ∷ bitOf (getD (i .shares) 1 false) ∷ bitOf (getD (i .shares) 2 false)
-    ∷ bitOf (getD (i .shares) 3 false) ∷ bitOf (getD (i .shares) 4 false) ∷ bitOf (getD (i .shares) 5 false)
-    ∷ bitOf (getD (i .shares) 6 false) ∷ bitOf (getD (i .shares) 7 false) ∷ []
+    i .«main_data_begin» ∷ bitOf (getD (i .scfsi) 0 false) ∷ bitOf (getD (i .scfsi) 1 false) ∷ bitOf (getD (i .scfsi) 2 false)
+    ∷ bitOf (getD (i .scfsi) 3 false) ∷ bitOf (getD (i .scfsi) 4 false) ∷ bitOf (getD (i .scfsi) 5 false)
+    ∷ bitOf (getD (i .scfsi) 6 false) ∷ bitOf (getD (i .scfsi) 7 false) ∷ []
 
 -- what stands past the end of a list of gains
 abbrev noGain : Float
@@ -77,10 +77,10 @@ noGain = nan
 -- a gain is told by its number, 0 to 7
 unfoldable pub recordValues : SlotRecord → List ℕ
 recordValues r =
-    r .length ∷ r .pairs ∷ r .gain ∷ r .compress ∷ blockNumber (r .block)
-    ∷ gainNumber (getD (r .gains) 0 noGain) ∷ gainNumber (getD (r .gains) 1 noGain) ∷ gainNumber (getD (r .gains) 2 noGain)
-    ∷ getD (r .tables) 0 0 ∷ getD (r .tables) 1 0 ∷ getD (r .tables) 2 0
-    ∷ r .region0 ∷ r .region1 ∷ bitOf (r .preflag) ∷ bitOf (r .scale) ∷ bitOf (r .count1) ∷ []
+    r .«part2_3_length» ∷ r .«big_values» ∷ r .«global_gain» ∷ r .«scalefac_compress» ∷ blockNumber (r .«block_type»)
+    ∷ gainNumber (getD (r .«subblock_gain») 0 noGain) ∷ gainNumber (getD (r .«subblock_gain») 1 noGain) ∷ gainNumber (getD (r .«subblock_gain») 2 noGain)
+    ∷ getD (r .«table_select») 0 0 ∷ getD (r .«table_select») 1 0 ∷ getD (r .«table_select») 2 0
+    ∷ r .«region0_count» ∷ r .«region1_count» ∷ bitOf (r .preflag) ∷ bitOf (r .«scalefac_scale») ∷ bitOf (r .«count1table_select») ∷ []
 
 -- ---- what a frame's answer tells, and where the next try begins
 -- the fields are told of a frame that was read, and of one that only reaches too far back

@@ -1,10 +1,10 @@
 // A frame's answer as numbers, for programs that print it or hold it to another reader's: the fields of its header, its side
 // information and its slots' records, and where the next frame is tried.
-use records::checks::gain_number;
-use refusals::number_of;
-use sizes::bps;
-use sizes::hz;
-use sizes::is_intensity;
+use derived::bps;
+use derived::hz;
+use derived::is_intensity;
+use derived::number_of;
+use record_check::checks::gain_number;
 use standard::BlockType;
 use standard::Channels;
 use standard::Emphasis;
@@ -88,6 +88,7 @@ fn block_number(b: BlockType) -> u64
     }
 }
 
+// A header's fields as numbers, in the order of its bits.
 pub fn header_values(h: FrameHeader) -> [u64; 11]
     ensures { λ r. ⌜ r ≡ headerValues h ⌝ }
 {
@@ -111,12 +112,13 @@ pub fn header_values(h: FrameHeader) -> [u64; 11]
     ]
 }
 
+// Side information's own fields as numbers.
 pub fn side_values(i: SideInfo) -> [u64; 9]
     ensures { λ r. ⌜ r ≡ sideValues i ⌝ }
 {
-    let s = i.shares;
+    let s = i.scfsi;
     [
-        i.begin as u64,
+        i.main_data_begin as u64,
         bit_of(s[0]),
         bit_of(s[1]),
         bit_of(s[2]),
@@ -128,17 +130,18 @@ pub fn side_values(i: SideInfo) -> [u64; 9]
     ]
 }
 
+// A record's fields as numbers, its gains as 0 to 7.
 pub fn record_values(r: SlotRecord) -> [u64; 16]
     ensures { λ v. ⌜ v ≡ recordValues r ⌝ }
 {
-    let block = r.block;
-    let g = r.gains;
-    let t = r.tables;
+    let block = r.block_type;
+    let g = r.subblock_gain;
+    let t = r.table_select;
     [
-        r.length as u64,
-        r.pairs as u64,
-        r.gain as u64,
-        r.compress as u64,
+        r.part2_3_length as u64,
+        r.big_values as u64,
+        r.global_gain as u64,
+        r.scalefac_compress as u64,
         block_number(block),
         wide(gain_number(g[0])),
         wide(gain_number(g[1])),
@@ -146,11 +149,11 @@ pub fn record_values(r: SlotRecord) -> [u64; 16]
         wide(t[0]),
         wide(t[1]),
         wide(t[2]),
-        r.region0 as u64,
-        r.region1 as u64,
+        r.region0_count as u64,
+        r.region1_count as u64,
         bit_of(r.preflag),
-        bit_of(r.scale),
-        bit_of(r.count1),
+        bit_of(r.scalefac_scale),
+        bit_of(r.count1table_select),
     ]
 }
 

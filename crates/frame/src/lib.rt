@@ -1,14 +1,14 @@
 // One frame of a recording, from its bytes and what the frames before it left in the reservoir.
+use derived::frame_length;
+use derived::header_size;
+use derived::main_size;
+use derived::side_size;
 use header::read_frame_header;
 use main_data::answers::lacking_slots;
 use main_data::read_slots;
 use reservoir::turn;
 use side_info::read_side_info;
 use side_info::side::no_side;
-use sizes::frame_length;
-use sizes::header_size;
-use sizes::main_size;
-use sizes::side_size;
 use standard::BitRate;
 use standard::Channels;
 use standard::Emphasis;
@@ -94,10 +94,10 @@ fn with_main(
     numbers: &mut [i32],
 ) -> FrameAnswer
     requires { ⌜ (4096 ≤ length (now bytes)) × (reservoir .length ≤ 4096) × (2304 ≤ length (now numbers)) × (isHeader h ≡ true) × (isSide h i ≡ true) × (length (now main) ≡ mainSize h) ⌝ }
-    ensures { λ r. ⌜ FrameRead (now (bytes .entry)) reservoir (now (numbers .entry)) (withTurn h i (turnOf (i .begin) (take (reservoir .length) (now (bytes .entry))) (now (main .entry)))) r (now (bytes .exit)) (now (numbers .exit)) ⌝ }
+    ensures { λ r. ⌜ FrameRead (now (bytes .entry)) reservoir (now (numbers .entry)) (withTurn h i (turnOf (i .«main_data_begin») (take (reservoir .length) (now (bytes .entry))) (now (main .entry)))) r (now (bytes .exit)) (now (numbers .exit)) ⌝ }
 {
     let length = frame_length(h);
-    let a = turn(&mut *bytes, reservoir, i.begin, main);
+    let a = turn(&mut *bytes, reservoir, i.main_data_begin, main);
     let kept = a.reservoir;
     let verdict = a.verdict;
     if let Verdict::Refused(why) = verdict {

@@ -1,5 +1,5 @@
 // The rows of numbers that tell of slots: for each slot what became of it, its count, and its factors.
-use refusals::number_of;
+use derived::number_of;
 use standard::SlotAnswer;
 use standard::SlotOutcome;
 use standard::Verdict;

@@ -1,7 +1,7 @@
 // A frame's header: read from its first bytes, and which header records bytes read to.
-use sizes::bps;
-use sizes::hz;
-use sizes::is_mpeg1;
+use derived::bps;
+use derived::hz;
+use derived::is_mpeg1;
 use standard::BitRate;
 use standard::Channels;
 use standard::Emphasis;

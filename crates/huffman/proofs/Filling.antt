@@ -9,8 +9,8 @@ use native.Mathlib.Omega.{arith}
 use lib.IntN.{ℤ}
 use lib.ListN.{length, take, drop, set, length-append}
 use lib.Seq.{sets, sets-eq, length-sets, length-take-le, take-at, drop-at, drop-drop}
-use Rattle.standard.specs.Bits.{window}
-use Rattle.standard.specs.BitsLaws.{window-drop, window-length}
+use Rattle.standard.specs.Bits.{between}
+use Rattle.standard.specs.BitsLaws.{between-drop, between-length}
 use Rattle.standard.specs.Numbers.{Numbers, got, prepend, pairOf, quadOf, pairs, quads}
 use Rattle.standard.specs.NumbersLaws.{prepend-nil, prepend-prepend, pairs-none, pairs-two, quads-end, quads-none, quads-dropped, quads-four}
 use Rattle.standard.specs.declared.Refusal.{Refusal}
@@ -67,10 +67,10 @@ pub record PairLoop (q : Numbers) (trees : List ℕ) (table : ℕ → ℕ) (n : 
   pub some : k ≤ n
   pub even : i ≡ 2 * k
   pub place : at < 2 ^ 64
-  pub fill : Filling q (pairs (lookedUp trees) table k (n - k) (window s at e)) out₀ out i
+  pub fill : Filling q (pairs (lookedUp trees) table k (n - k) (between s at e)) out₀ out i
 
 pub pair-begin : (trees : List ℕ) (table : ℕ → ℕ) (n : ℕ) (s : List ℕ) (start e : ℕ) (out : List ℤ) → start < 2 ^ 64 → length out ≡ 576
-    → PairLoop (pairs (lookedUp trees) table 0 n (window s start e)) trees table n s e out out start 0 0
+    → PairLoop (pairs (lookedUp trees) table 0 n (between s start e)) trees table n s e out out start 0 0
 pair-begin trees table n s start e out p l =
     let z : n ≡ n - 0 = omega arith in
     record {
@@ -79,7 +79,7 @@ pair-begin trees table n s start e out p l =
       place = p;
       fill = record {
         long = l;
-        same = ap (λ (m : ℕ). pairs (lookedUp trees) table 0 m (window s start e)) z ∙ sym (prepend-nil (pairs (lookedUp trees) table 0 (n - 0) (window s start e)));
+        same = ap (λ (m : ℕ). pairs (lookedUp trees) table 0 m (between s start e)) z ∙ sym (prepend-nil (pairs (lookedUp trees) table 0 (n - 0) (between s start e)));
         kept = refl;
       };
     }
@@ -95,20 +95,20 @@ module _ (q : Numbers) (trees : List ℕ) (table : ℕ → ℕ) (n : ℕ) (s : L
     one-more : n - k ≡ suc (n - (k + 1))
     one-more = omega arith
 
-    next-pair : (p : Pair) → p ≡ pairOf (lookedUp trees) t (window s at e) → p ≡ pairOf (lookedUp trees) (table (2 * k)) (window s at e)
-    next-pair p g = g ∙ ap (λ (m : ℕ). pairOf (lookedUp trees) m (window s at e)) (ht ∙ ap table (r .even))
+    next-pair : (p : Pair) → p ≡ pairOf (lookedUp trees) t (between s at e) → p ≡ pairOf (lookedUp trees) (table (2 * k)) (between s at e)
+    next-pair p g = g ∙ ap (λ (m : ℕ). pairOf (lookedUp trees) m (between s at e)) (ht ∙ ap table (r .even))
 
-    pub pair-halt : (why : Refusal) → NoPair why ≡ pairOf (lookedUp trees) t (window s at e) → PairsRead q n s e out₀ out (Halted why)
+    pub pair-halt : (why : Refusal) → NoPair why ≡ pairOf (lookedUp trees) t (between s at e) → PairsRead q n s e out₀ out (Halted why)
     unfolding prepend pairsSaid
     pair-halt why g = record {
       long = r .fill .long;
       same =
-          r .fill .same ∙ ap (λ (m : ℕ). prepend (take i out) (pairs (lookedUp trees) table k m (window s at e))) one-more
-          ∙ ap (prepend (take i out)) (pairs-none (lookedUp trees) table k (n - (k + 1)) (window s at e) why (next-pair (NoPair why) g));
+          r .fill .same ∙ ap (λ (m : ℕ). prepend (take i out) (pairs (lookedUp trees) table k m (between s at e))) one-more
+          ∙ ap (prepend (take i out)) (pairs-none (lookedUp trees) table k (n - (k + 1)) (between s at e) why (next-pair (NoPair why) g));
       kept = pair-kept;
     }
 
-    pub pair-turn : (x y : ℤ) (u : ℕ) → Two x y u ≡ pairOf (lookedUp trees) t (window s at e) → n ≤ 288 → e < 2 ^ 64
+    pub pair-turn : (x y : ℤ) (u : ℕ) → Two x y u ≡ pairOf (lookedUp trees) t (between s at e) → n ≤ 288 → e < 2 ^ 64
         → PairLoop q trees table n s e out₀ (set (set out i x) (i + 1) y) (at + u) (i + 2) (k + 1)
     pair-turn x y u g few fit = record {
       some = omega arith;
@@ -116,10 +116,10 @@ module _ (q : Numbers) (trees : List ℕ) (table : ℕ → ℕ) (n : ℕ) (s : L
       place = omega (arith, pair-within s at e trees t (Two x y u) g, r .place);
       fill =
           rw (two-stores out i x y)
-          (filling-turn q (pairs (lookedUp trees) table k (n - k) (window s at e)) (pairs (lookedUp trees) table (k + 1) (n - (k + 1)) (window s (at + u) e)) out₀ out (x ∷ y ∷ []) i (i + 2) (r .fill)
-          (ap (λ (m : ℕ). pairs (lookedUp trees) table k m (window s at e)) one-more
-          ∙ pairs-two (lookedUp trees) table k (n - (k + 1)) (window s at e) x y u (next-pair (Two x y u) g)
-          ∙ (λ j. prepend (x ∷ y ∷ []) (pairs (lookedUp trees) table (sym (add-one k) j) (n - (k + 1)) (window-drop u s at e j))))
+          (filling-turn q (pairs (lookedUp trees) table k (n - k) (between s at e)) (pairs (lookedUp trees) table (k + 1) (n - (k + 1)) (between s (at + u) e)) out₀ out (x ∷ y ∷ []) i (i + 2) (r .fill)
+          (ap (λ (m : ℕ). pairs (lookedUp trees) table k m (between s at e)) one-more
+          ∙ pairs-two (lookedUp trees) table k (n - (k + 1)) (between s at e) x y u (next-pair (Two x y u) g)
+          ∙ (λ j. prepend (x ∷ y ∷ []) (pairs (lookedUp trees) table (sym (add-one k) j) (n - (k + 1)) (between-drop u s at e j))))
           refl (omega (arith, r .even)));
     }
 
@@ -131,8 +131,8 @@ module _ (q : Numbers) (trees : List ℕ) (table : ℕ → ℕ) (n : ℕ) (s : L
       record {
         long = r .fill .long;
         same =
-            r .fill .same ∙ ap (λ (m : ℕ). prepend (take i out) (pairs (lookedUp trees) table k m (window s at e))) z
-            ∙ ap (λ (l : List ℤ). got l (window s at e)) (append-nil (take i out) ∙ ap (λ (m : ℕ). take m out) w);
+            r .fill .same ∙ ap (λ (m : ℕ). prepend (take i out) (pairs (lookedUp trees) table k m (between s at e))) z
+            ∙ ap (λ (l : List ℤ). got l (between s at e)) (append-nil (take i out) ∙ ap (λ (m : ℕ). take m out) w);
         kept = pair-kept;
       }
 
@@ -141,10 +141,10 @@ pub record QuadLoop (q : Numbers) (trees : List ℕ) (t from : ℕ) (s : List �
   pub low : from ≤ i
   pub high : i ≤ 576
   pub place : at < 2 ^ 64
-  pub fill : Filling q (quads (lookedUp trees) t ((576 - i) / 4) (window s at e)) out₀ out i
+  pub fill : Filling q (quads (lookedUp trees) t ((576 - i) / 4) (between s at e)) out₀ out i
 
 pub quad-begin : (trees : List ℕ) (t from : ℕ) (s : List ℕ) (start e : ℕ) (out : List ℤ) → from ≤ 576 → start < 2 ^ 64 → length out ≡ 576
-    → QuadLoop (prepend (take from out) (quads (lookedUp trees) t ((576 - from) / 4) (window s start e))) trees t from s e out out start from
+    → QuadLoop (prepend (take from out) (quads (lookedUp trees) t ((576 - from) / 4) (between s start e))) trees t from s e out out start from
 quad-begin trees t from s start e out f p l = record {
   low = omega arith;
   high = f;
@@ -155,7 +155,7 @@ quad-begin trees t from s start e out f p l = record {
 module _ (q : Numbers) (trees : List ℕ) (t from : ℕ) (s : List ℕ) (e : ℕ) (out₀ out : List ℤ) (at i : ℕ)
     (r : QuadLoop q trees t from s e out₀ out at i) where
   -- what was read stays, whichever bits are left
-  quad-done : (b : List Bool) → quads (lookedUp trees) t ((576 - i) / 4) (window s at e) ≡ got [] b → NumbersRead q from out₀ out (Counted i)
+  quad-done : (b : List Bool) → quads (lookedUp trees) t ((576 - i) / 4) (between s at e) ≡ got [] b → NumbersRead q from out₀ out (Counted i)
   unfolding prepend Says
   quad-done b g = record {
     long = r .fill .long;
@@ -174,32 +174,32 @@ module _ (q : Numbers) (trees : List ℕ) (t from : ℕ) (s : List ℕ) (e : ℕ
   unfolding quads
   quad-full h =
       let z : (576 - i) / 4 ≡ 0 = omega arith in
-      quad-done (window s at e) (ap (λ (m : ℕ). quads (lookedUp trees) t m (window s at e)) z)
+      quad-done (between s at e) (ap (λ (m : ℕ). quads (lookedUp trees) t m (between s at e)) z)
 
   pub quad-out : e ≤ at → NumbersRead q from out₀ out (Counted i)
-  quad-out h = quad-done [] (quads-end (lookedUp trees) t ((576 - i) / 4) (window s at e) (omega (arith, window-length s at e)))
+  quad-out h = quad-done [] (quads-end (lookedUp trees) t ((576 - i) / 4) (between s at e) (omega (arith, between-length s at e)))
 
   -- four numbers fit, and a bit is left
   module _ (h : i ≤ 572) (k : at < e) where
-    left : 0 < length (window s at e)
-    left = omega (arith, window-length s at e)
+    left : 0 < length (between s at e)
+    left = omega (arith, between-length s at e)
 
-    one-quad : quads (lookedUp trees) t ((576 - i) / 4) (window s at e) ≡ quads (lookedUp trees) t (suc ((576 - (i + 4)) / 4)) (window s at e)
+    one-quad : quads (lookedUp trees) t ((576 - i) / 4) (between s at e) ≡ quads (lookedUp trees) t (suc ((576 - (i + 4)) / 4)) (between s at e)
     one-quad =
         let z : (576 - i) / 4 ≡ suc ((576 - (i + 4)) / 4) = omega arith in
-        ap (λ (m : ℕ). quads (lookedUp trees) t m (window s at e)) z
+        ap (λ (m : ℕ). quads (lookedUp trees) t m (between s at e)) z
 
-    pub quad-dropped : Dropped ≡ quadOf (lookedUp trees) t (window s at e) → NumbersRead q from out₀ out (Counted i)
-    quad-dropped g = quad-done [] (one-quad ∙ quads-dropped (lookedUp trees) t ((576 - (i + 4)) / 4) (window s at e) left g)
+    pub quad-dropped : Dropped ≡ quadOf (lookedUp trees) t (between s at e) → NumbersRead q from out₀ out (Counted i)
+    quad-dropped g = quad-done [] (one-quad ∙ quads-dropped (lookedUp trees) t ((576 - (i + 4)) / 4) (between s at e) left g)
 
-    pub quad-halt : NoQuad ≡ quadOf (lookedUp trees) t (window s at e) → NumbersRead q from out₀ out (Uncounted NoCodeword)
+    pub quad-halt : NoQuad ≡ quadOf (lookedUp trees) t (between s at e) → NumbersRead q from out₀ out (Uncounted NoCodeword)
     unfolding prepend Says
     quad-halt g = record {
       long = r .fill .long;
-      says = r .fill .same ∙ ap (prepend (take i out)) (one-quad ∙ quads-none (lookedUp trees) t ((576 - (i + 4)) / 4) (window s at e) left g);
+      says = r .fill .same ∙ ap (prepend (take i out)) (one-quad ∙ quads-none (lookedUp trees) t ((576 - (i + 4)) / 4) (between s at e) left g);
     }
 
-    pub quad-turn : (v w x y : ℤ) (u : ℕ) → Four v w x y u ≡ quadOf (lookedUp trees) t (window s at e) → e < 2 ^ 64
+    pub quad-turn : (v w x y : ℤ) (u : ℕ) → Four v w x y u ≡ quadOf (lookedUp trees) t (between s at e) → e < 2 ^ 64
         → QuadLoop q trees t from s e out₀ (set (set (set (set out i v) (i + 1) w) (i + 2) x) (i + 3) y) (at + u) (i + 4)
     quad-turn v w x y u g fit = record {
       low = omega (arith, r .low);
@@ -207,8 +207,8 @@ module _ (q : Numbers) (trees : List ℕ) (t from : ℕ) (s : List ℕ) (e : ℕ
       place = omega (arith, quad-within s at e trees t (Four v w x y u) g, r .place);
       fill =
           rw (four-stores out i v w x y)
-          (filling-turn q (quads (lookedUp trees) t ((576 - i) / 4) (window s at e)) (quads (lookedUp trees) t ((576 - (i + 4)) / 4) (window s (at + u) e)) out₀ out (v ∷ w ∷ x ∷ y ∷ []) i (i + 4) (r .fill)
-          (one-quad ∙ quads-four (lookedUp trees) t ((576 - (i + 4)) / 4) (window s at e) left v w x y u g
-          ∙ ap (λ (b : List Bool). prepend (v ∷ w ∷ x ∷ y ∷ []) (quads (lookedUp trees) t ((576 - (i + 4)) / 4) b)) (window-drop u s at e))
+          (filling-turn q (quads (lookedUp trees) t ((576 - i) / 4) (between s at e)) (quads (lookedUp trees) t ((576 - (i + 4)) / 4) (between s (at + u) e)) out₀ out (v ∷ w ∷ x ∷ y ∷ []) i (i + 4) (r .fill)
+          (one-quad ∙ quads-four (lookedUp trees) t ((576 - (i + 4)) / 4) (between s at e) left v w x y u g
+          ∙ ap (λ (b : List Bool). prepend (v ∷ w ∷ x ∷ y ∷ []) (quads (lookedUp trees) t ((576 - (i + 4)) / 4) b)) (between-drop u s at e))
           refl (omega arith));
     }

@@ -9,7 +9,7 @@ use lib.IntN.{ℤ, pos}
 use lib.ListN.{length, take, drop, replicate, take-append-drop}
 use lib.Seq.{paste, length-take-le}
 use Rattle.standard.specs.Told.{told}
-use Rattle.standard.specs.Bits.{window}
+use Rattle.standard.specs.Bits.{between}
 use Rattle.standard.specs.Numbers.{Numbers, halted, prepend, quadTable, regionsOf, tableAt, pairs, quads, thenRest, numbersBy, numbersOf, padded}
 use Rattle.standard.specs.NumbersLaws.{numbers-none, numbers-some}
 use Rattle.standard.specs.declared.SampleRate.{SampleRate}
@@ -40,7 +40,7 @@ says-on q q' from out₀ out₁ out e k (Counted n) f = record {
 }
 
 module _ (trees : List ℕ) (rate : SampleRate) (r : SlotRecord) (s : List ℕ) (at e : ℕ) (out₀ : List ℤ) where
-  pub none-read : length out₀ ≡ 576 → e ≤ at → NumbersRead (numbersOf (lookedUp trees) rate r (window s at e)) 0 out₀ out₀ (Counted 0)
+  pub none-read : length out₀ ≡ 576 → e ≤ at → NumbersRead (numbersOf (lookedUp trees) rate r (between s at e)) 0 out₀ out₀ (Counted 0)
   unfolding Says
   none-read l h = record {
     long = l;
@@ -54,38 +54,38 @@ module _ (trees : List ℕ) (rate : SampleRate) (r : SlotRecord) (s : List ℕ) 
 
   module _ (h : at < e) where
     pub no-regions : length out₀ ≡ 576 → NoRegions ≡ regionsOf rate r
-        → NumbersRead (numbersOf (lookedUp trees) rate r (window s at e)) 0 out₀ out₀ (Uncounted RegionOverrun)
+        → NumbersRead (numbersOf (lookedUp trees) rate r (between s at e)) 0 out₀ out₀ (Uncounted RegionOverrun)
     unfolding Says numbersBy
     no-regions l g = record {
       long = l;
-      says = numbers-some (lookedUp trees) rate r s at e h ∙ ap (λ (x : Regions). numbersBy (lookedUp trees) r x (window s at e)) (sym g);
+      says = numbers-some (lookedUp trees) rate r s at e h ∙ ap (λ (x : Regions). numbersBy (lookedUp trees) r x (between s at e)) (sym g);
     }
 
     -- what the whole is after its pairs
-    module _ (first second n : ℕ) (out₁ : List ℤ) (x : Ended) (g : Split first second ≡ regionsOf rate r) (hn : n ≡ r .pairs)
-        (p : PairsRead (pairs (lookedUp trees) (tableAt first second (r .tables)) 0 n (window s at e)) n s e out₀ out₁ x) where
-      after-pairs : numbersOf (lookedUp trees) rate r (window s at e) ≡ thenRest (lookedUp trees) (quadTable (r .count1)) n (pairsSaid x (take (2 * n) out₁) s e)
+    module _ (first second n : ℕ) (out₁ : List ℤ) (x : Ended) (g : Split first second ≡ regionsOf rate r) (hn : n ≡ r .«big_values»)
+        (p : PairsRead (pairs (lookedUp trees) (tableAt first second (r .«table_select»)) 0 n (between s at e)) n s e out₀ out₁ x) where
+      after-pairs : numbersOf (lookedUp trees) rate r (between s at e) ≡ thenRest (lookedUp trees) (quadTable (r .«count1table_select»)) n (pairsSaid x (take (2 * n) out₁) s e)
       unfolding numbersBy
       after-pairs =
-          numbers-some (lookedUp trees) rate r s at e h ∙ ap (λ (y : Regions). numbersBy (lookedUp trees) r y (window s at e)) (sym g)
-          ∙ ap (λ (m : ℕ). thenRest (lookedUp trees) (quadTable (r .count1)) m (pairs (lookedUp trees) (tableAt first second (r .tables)) 0 m (window s at e))) (sym hn)
-          ∙ ap (thenRest (lookedUp trees) (quadTable (r .count1)) n) (p .same)
+          numbers-some (lookedUp trees) rate r s at e h ∙ ap (λ (y : Regions). numbersBy (lookedUp trees) r y (between s at e)) (sym g)
+          ∙ ap (λ (m : ℕ). thenRest (lookedUp trees) (quadTable (r .«count1table_select»)) m (pairs (lookedUp trees) (tableAt first second (r .«table_select»)) 0 m (between s at e))) (sym hn)
+          ∙ ap (thenRest (lookedUp trees) (quadTable (r .«count1table_select»)) n) (p .same)
 
-      pub pairs-halted : (why : Refusal) → x ≡ Halted why → NumbersRead (numbersOf (lookedUp trees) rate r (window s at e)) 0 out₀ out₁ (Uncounted why)
+      pub pairs-halted : (why : Refusal) → x ≡ Halted why → NumbersRead (numbersOf (lookedUp trees) rate r (between s at e)) 0 out₀ out₁ (Uncounted why)
       unfolding Says thenRest pairsSaid
       pairs-halted why d = record {
         long = p .long;
-        says = after-pairs ∙ ap (λ (y : Ended). thenRest (lookedUp trees) (quadTable (r .count1)) n (pairsSaid y (take (2 * n) out₁) s e)) d;
+        says = after-pairs ∙ ap (λ (y : Ended). thenRest (lookedUp trees) (quadTable (r .«count1table_select»)) n (pairsSaid y (take (2 * n) out₁) s e)) d;
       }
 
-      pub quads-read : (place t : ℕ) (out : List ℤ) (a : HuffmanAnswer) → x ≡ At place → t ≡ quadTable (r .count1)
-          → NumbersRead (prepend (take (2 * n) out₁) (quads (lookedUp trees) t ((576 - 2 * n) / 4) (window s place e))) (2 * n) out₁ out a
-          → NumbersRead (numbersOf (lookedUp trees) rate r (window s at e)) 0 out₀ out a
+      pub quads-read : (place t : ℕ) (out : List ℤ) (a : HuffmanAnswer) → x ≡ At place → t ≡ quadTable (r .«count1table_select»)
+          → NumbersRead (prepend (take (2 * n) out₁) (quads (lookedUp trees) t ((576 - 2 * n) / 4) (between s place e))) (2 * n) out₁ out a
+          → NumbersRead (numbersOf (lookedUp trees) rate r (between s at e)) 0 out₀ out a
       unfolding thenRest pairsSaid
       quads-read place t out a d ht f = record {
         long = f .long;
         says =
-            says-on (numbersOf (lookedUp trees) rate r (window s at e)) (prepend (take (2 * n) out₁) (quads (lookedUp trees) t ((576 - 2 * n) / 4) (window s place e))) (2 * n) out₀ out₁ out
+            says-on (numbersOf (lookedUp trees) rate r (between s at e)) (prepend (take (2 * n) out₁) (quads (lookedUp trees) t ((576 - 2 * n) / 4) (between s place e))) (2 * n) out₀ out₁ out
             (after-pairs ∙ (λ j. thenRest (lookedUp trees) (sym ht j) n (pairsSaid (d j) (take (2 * n) out₁) s e)))
             (p .kept) a (f .says);
       }

@@ -6,7 +6,7 @@ use mathlib.Core.List.{List}
 use Prim.Native.Nat.{ℕ, _*_, _≤_}
 use lib.IntN.{ℤ}
 use lib.ListN.{length, take, drop}
-use Rattle.standard.specs.Bits.{window}
+use Rattle.standard.specs.Bits.{between}
 use Rattle.standard.specs.Numbers.{Numbers, halted, got}
 use Rattle.huffman.specs.declared.HuffmanAnswer.{HuffmanAnswer}
 use Rattle.huffman.specs.declared.HuffmanAnswer.the-variants.{Counted, Uncounted}
@@ -16,7 +16,7 @@ use Rattle.huffman.specs.declared.runs.Ended.the-variants.{At, Halted}
 -- n pairs were read, and the bits left start at a place; or they were not
 unfoldable pub pairsSaid : Ended → List ℤ → List ℕ → ℕ → Numbers
 pairsSaid (Halted r) vs s e = halted r
-pairsSaid (At p) vs s e = got vs (window s p e)
+pairsSaid (At p) vs s e = got vs (between s p e)
 
 pub record PairsRead (q : Numbers) (n : ℕ) (s : List ℕ) (e : ℕ) (out₀ out : List ℤ) (r : Ended) : Type 0 where
   pub long : length out ≡ 576

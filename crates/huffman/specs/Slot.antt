@@ -18,7 +18,7 @@ use Rattle.huffman.specs.declared.HuffmanAnswer.the-variants.{Counted, U
 unfoldable pub slotNumbers : Reader → SampleRate → SlotRecord → List Bool → List ℤ → Numbers
 slotNumbers word rate r b d =
     pick (ltb (length d) 576) (halted UnfitMemory)
-    (pick (ltb 288 (r .pairs)) (halted TooManyPairs) (numbersOf word rate r b))
+    (pick (ltb 288 (r .«big_values»)) (halted TooManyPairs) (numbersOf word rate r b))
 
 -- what the answer says: the number of a refusal, or how many numbers were read
 abbrev pub toldCount : HuffmanAnswer → Told ℕ

@@ -34,13 +34,13 @@ module _ (word : Reader) (rate : SampleRate) (r : SlotRecord) (b : List Bool) (d
   unfolding slotNumbers
   slot-unfit h = picked _ (lt-ltb (length d) 576 h)
 
-  pub slot-crowded : 576 ≤ length d → 288 < r .pairs → slotNumbers word rate r b d ≡ halted TooManyPairs
+  pub slot-crowded : 576 ≤ length d → 288 < r .«big_values» → slotNumbers word rate r b d ≡ halted TooManyPairs
   unfolding slotNumbers
-  slot-crowded h k = passed (halted UnfitMemory) (le-ltb (length d) 576 h) ∙ picked (numbersOf word rate r b) (lt-ltb 288 (r .pairs) k)
+  slot-crowded h k = passed (halted UnfitMemory) (le-ltb (length d) 576 h) ∙ picked (numbersOf word rate r b) (lt-ltb 288 (r .«big_values») k)
 
-  pub slot-fits : 576 ≤ length d → r .pairs ≤ 288 → slotNumbers word rate r b d ≡ numbersOf word rate r b
+  pub slot-fits : 576 ≤ length d → r .«big_values» ≤ 288 → slotNumbers word rate r b d ≡ numbersOf word rate r b
   unfolding slotNumbers
-  slot-fits h k = passed (halted UnfitMemory) (le-ltb (length d) 576 h) ∙ passed (halted TooManyPairs) (le-ltb 288 (r .pairs) k)
+  slot-fits h k = passed (halted UnfitMemory) (le-ltb (length d) 576 h) ∙ passed (halted TooManyPairs) (le-ltb 288 (r .«big_values») k)
 
 pub refused-as : (q : Numbers) (d : List ℤ) (why : Refusal) → q ≡ halted why → (refused why ≡ countOf q) × (d ≡ numbersAfter q d)
 unfolding countOf numbersAfter

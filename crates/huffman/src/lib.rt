@@ -1,14 +1,15 @@
 // A slot's numbers, from the bits after its scale factors: regions, pairs, quads.
 mod runs;
 
+use derived::shape_of;
 use runs::Ended;
 use runs::read_pairs;
 use runs::read_quads;
-use sizes::is_short;
 use standard::BlockType;
 use standard::Refusal;
 use standard::Regions;
 use standard::SampleRate;
+use standard::Shape;
 use standard::SlotRecord;
 use tables::bands::long_start;
 ghost use mathlib.Core.Path.{_≡_};
@@ -17,9 +18,9 @@ ghost use Prim.Native.Nat.{_≤_};
 ghost use lib.Dec.{ltb};
 ghost use lib.ListN.{length};
 ghost use lib.Seq.{paste};
-ghost use Rattle.standard.specs.Bits.{window};
+ghost use Rattle.standard.specs.Bits.{between};
 ghost use Rattle.standard.specs.Record.{isLong};
-ghost use Rattle.standard.specs.Numbers.{quadTable, regionsOf, numbersOf};
+ghost use Rattle.standard.specs.Numbers.{quadTable, regionsBy, regionsOf, numbersOf};
 ghost use Rattle.codes.specs.Walk.{lookedUp};
 ghost use Rattle.huffman.specs.Slot.{slotNumbers, toldCount, countOf, numbersAfter};
 ghost use Rattle.huffman.specs.Runs.{NumbersRead};
@@ -42,25 +43,34 @@ fn no_band(block: BlockType, regions: usize) -> bool
     }
 }
 
-// Where the tables of a slot's pairs change.
-pub fn regions_of(rate: SampleRate, r: SlotRecord) -> Regions
-    ensures { λ a. ⌜ a ≡ regionsOf rate r ⌝ }
+// Where the tables of long bands change: where the bands that the region counts name end.
+fn long_regions(rate: SampleRate, r: SlotRecord) -> Regions
+    ensures { λ a. ⌜ a ≡ regionsBy Shape.AllLong rate r ⌝ }
 {
-    let block = r.block;
-    if is_short(block) {
-        return Regions::Split {
-            first: 36,
-            second: 576,
-        };
-    }
-    let zero = r.region0 as usize;
-    let one = r.region1 as usize;
+    let block = r.block_type;
+    let zero = r.region0_count as usize;
+    let one = r.region1_count as usize;
     if no_band(block, zero + one) {
         return Regions::NoRegions;
     }
     Regions::Split {
         first: long_start(rate, zero + 1),
         second: long_start(rate, zero + one + 2),
+    }
+}
+
+// Where the tables of a slot's pairs change.
+fn regions_of(rate: SampleRate, r: SlotRecord) -> Regions
+    ensures { λ a. ⌜ a ≡ regionsOf rate r ⌝ }
+{
+    let block = r.block_type;
+    let shape = shape_of(block);
+    match shape {
+        Shape::AllLong => long_regions(rate, r),
+        Shape::AllShort => Regions::Split {
+            first: 36,
+            second: 576,
+        },
     }
 }
 
@@ -84,9 +94,9 @@ fn decode(
     end: usize,
     out: &mut [i32; 576],
 ) -> HuffmanAnswer
-    requires { ⌜ (r .pairs ≤ 288) × (length (now out) ≡ 576) ⌝ }
+    requires { ⌜ (r .«big_values» ≤ 288) × (length (now out) ≡ 576) ⌝ }
     ensures { λ a. ⌜ NumbersRead
-        (numbersOf (lookedUp (now (trees .entry))) rate r (window (now (s .entry)) at end))
+        (numbersOf (lookedUp (now (trees .entry))) rate r (between (now (s .entry)) at end))
         0 (now (out .entry)) (now (out .exit)) a ⌝ }
 {
     if end <= at {
@@ -95,12 +105,20 @@ fn decode(
     let Regions::Split { first, second } = regions_of(rate, r) else {
         return HuffmanAnswer::Uncounted(Refusal::RegionOverrun);
     };
-    let tables = r.tables;
-    let n = r.pairs as usize;
+    let tables = r.table_select;
+    let n = r.big_values as usize;
     match read_pairs(trees, first, second, tables, n, s, at, end, out) {
         Ended::Halted(why) => HuffmanAnswer::Uncounted(why),
         Ended::At { place } => {
-            read_quads(trees, quad_table(r.count1), s, place, end, 2 * n, out)
+            read_quads(
+                trees,
+                quad_table(r.count1table_select),
+                s,
+                place,
+                end,
+                2 * n,
+                out,
+            )
         }
     }
 }
@@ -128,14 +146,14 @@ pub fn read_huffman(
     numbers: &mut [i32],
 ) -> HuffmanAnswer
     ensures { λ a. ⌜ toldCount a
-        ≡ countOf (slotNumbers (lookedUp (now (trees .entry))) rate r (window (now (s .entry)) at end) (now (numbers .entry))) ⌝ }
+        ≡ countOf (slotNumbers (lookedUp (now (trees .entry))) rate r (between (now (s .entry)) at end) (now (numbers .entry))) ⌝ }
     ensures { λ _. ⌜ now (numbers .exit)
-        ≡ numbersAfter (slotNumbers (lookedUp (now (trees .entry))) rate r (window (now (s .entry)) at end) (now (numbers .entry))) (now (numbers .entry)) ⌝ }
+        ≡ numbersAfter (slotNumbers (lookedUp (now (trees .entry))) rate r (between (now (s .entry)) at end) (now (numbers .entry))) (now (numbers .entry)) ⌝ }
 {
     if numbers.len() < 576 {
         return HuffmanAnswer::Uncounted(Refusal::UnfitMemory);
     }
-    if r.pairs > 288 {
+    if r.big_values > 288 {
         return HuffmanAnswer::Uncounted(Refusal::TooManyPairs);
     }
     let mut scratch = [0i32; 576];

@@ -8,7 +8,7 @@ use standard::Refusal;
 ghost use mathlib.Core.Path.{_≡_};
 ghost use Prim.Native.Nat.{_-_, _/_, _≤_};
 ghost use lib.ListN.{length, take};
-ghost use Rattle.standard.specs.Bits.{window};
+ghost use Rattle.standard.specs.Bits.{between};
 ghost use Rattle.standard.specs.Numbers.{tableAt, pairs, prepend, quads};
 ghost use Rattle.codes.specs.Walk.{lookedUp};
 ghost use Rattle.huffman.specs.Runs.{PairsRead, NumbersRead};
@@ -46,7 +46,7 @@ pub(crate) fn read_pairs(
 ) -> Ended
     requires { ⌜ (n ≤ 288) × (length (now out) ≡ 576) ⌝ }
     ensures { λ r. ⌜ PairsRead
-        (pairs (lookedUp (now (trees .entry))) (tableAt first second tables) 0 n (window (now (s .entry)) start end))
+        (pairs (lookedUp (now (trees .entry))) (tableAt first second tables) 0 n (between (now (s .entry)) start end))
         n (now (s .entry)) end (now (out .entry)) (now (out .exit)) r ⌝ }
 {
     let mut at = start;
@@ -82,7 +82,7 @@ pub(crate) fn read_quads(
 ) -> HuffmanAnswer
     requires { ⌜ (from ≤ 576) × (length (now out) ≡ 576) ⌝ }
     ensures { λ r. ⌜ NumbersRead
-        (prepend (take from (now (out .entry))) (quads (lookedUp (now (trees .entry))) table ((576 - from) / 4) (window (now (s .entry)) start end)))
+        (prepend (take from (now (out .entry))) (quads (lookedUp (now (trees .entry))) table ((576 - from) / 4) (between (now (s .entry)) start end)))
         from (now (out .entry)) (now (out .exit)) r ⌝ }
 {
     let mut at = start;

@@ -1,2 +1,3 @@
+pub mod Text
 pub mod Said
 pub mod SaidLaws

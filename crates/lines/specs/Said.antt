@@ -6,7 +6,7 @@ use lib.IntN.{ℤ}
 use lib.ListN.{take, drop}
 use Rattle.standard.specs.Told.{pick}
 use Rattle.standard.specs.Refusals.{numberOf}
-use Rattle.text.specs.Text.{decimalOf, signedOf}
+use Rattle.lines.specs.Text.{decimalOf, signedOf}
 use Rattle.standard.specs.declared.SlotOutcome.{SlotOutcome}
 use Rattle.standard.specs.declared.SlotOutcome.the-variants.{Read, NotRead, Lacking}
 

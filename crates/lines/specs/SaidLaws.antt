@@ -12,7 +12,7 @@ use Rattle.standard.specs.Refusals.{numberOf}
 use Rattle.standard.specs.declared.Refusal.{Refusal}
 use Rattle.standard.specs.declared.SlotOutcome.{SlotOutcome}
 use Rattle.standard.specs.declared.SlotOutcome.the-variants.{Read, NotRead, Lacking}
-use Rattle.text.specs.Text.{signedOf}
+use Rattle.lines.specs.Text.{signedOf}
 use Rattle.lines.specs.Said.{numbersText, slotStart, readEnd, notReadEnd, slotLine}
 
 text-snoc : (xs : List ℤ) (z : ℤ) → numbersText (xs ++ (z ∷ [])) ≡ numbersText xs ++ (32 ∷ []) ++ signedOf z

@@ -1,17 +1,19 @@
 // The lines of document 01's program `slots`, as text in lent bytes. Each function answers the place after what it put.
-use refusals::number_of;
+pub mod text;
+
+use crate::text::put_number;
+use crate::text::put_signed;
+use derived::number_of;
+use lent_bytes::put;
 use standard::Refusal;
 use standard::SlotAnswer;
 use standard::SlotOutcome;
-use text::put_number;
-use text::put_signed;
-use window::put;
 ghost use mathlib.Core.Path.{_≡_};
 ghost use Prim.Native.Nat.{_/_, _%_};
 ghost use lib.ListN.{take, drop};
 ghost use Rattle.standard.specs.Refusals.{numberOf};
 ghost use Rattle.standard.specs.Told.{pick};
-ghost use Rattle.window.specs.Window.{Put};
+ghost use Rattle.lent_bytes.specs.Put.{Put};
 ghost use Rattle.lines.specs.Said.{frameLine, refusedLine, endLine, slotStart, numbersText, readEnd, notReadEnd, slotLine, slotsText};
 
 // A frame that was accepted.

@@ -1,6 +1,6 @@
 -- Which sharing bits are a slot's: those of its channel, in the granule after the first.
 use mathlib.Core.Path.{_≡_, refl, sym, ap, _∙_}
-use mathlib.Core.Bool.{Bool, true, false, _||_}
+use mathlib.Core.Bool.{Bool, true, false, not, _||_}
 use mathlib.Core.List.{List, [], _∷_}
 use Prim.Native.Nat.{ℕ, zero, suc, _+_, _-_, _*_, _≤_, _<_}
 use native.Mathlib.Numerals.{add-one}
@@ -11,7 +11,8 @@ use lib.ListN.{length, getD, take, drop}
 use lib.Seq.{drop-cons, take-all}
 use Rattle.standard.specs.ToldLaws.{never, either-left, either-right, neither-of, picked, passed}
 use Rattle.standard.specs.Header.{granulesIn, channelsIn, isMpeg1, isTwo, granules, channelCount}
-use Rattle.standard.specs.Record.{isShort}
+use Rattle.standard.specs.Record.{shapeOf}
+use Rattle.standard.specs.Factors.{mayShare}
 use Rattle.standard.specs.Slots.{anyOf, sharesOf}
 use Rattle.standard.specs.declared.FrameHeader.{FrameHeader}
 use Rattle.standard.specs.declared.SideInfo.{SideInfo}
@@ -51,22 +52,22 @@ four-from l k h =
     ∙ ap (λ (t : List Bool). getD l (k + 2) false ∷ t) (one-more l (k + 3) 0 (omega arith)))))
 
 -- the two cases of the definition
-module _ (h : FrameHeader) (i : SideInfo) (n : ℕ) (r : SlotRecord) (c : ℕ) (e : c ≡ channelCount h) (y : Bool) (f : y ≡ ltb n c || isShort (r .block)) where
-  test : ltb n (channelCount h) || isShort (r .block) ≡ y
-  test = ap (λ (k : ℕ). ltb n k || isShort (r .block)) (sym e) ∙ sym f
+module _ (h : FrameHeader) (i : SideInfo) (n : ℕ) (r : SlotRecord) (c : ℕ) (e : c ≡ channelCount h) (y : Bool) (f : y ≡ ltb n c || not (mayShare (shapeOf r))) where
+  test : ltb n (channelCount h) || not (mayShare (shapeOf r)) ≡ y
+  test = ap (λ (k : ℕ). ltb n k || not (mayShare (shapeOf r))) (sym e) ∙ sym f
 
   pub shares-none : y ≡ true → false ∷ false ∷ false ∷ false ∷ [] ≡ sharesOf h i n r
   unfolding sharesOf
   shares-none t = sym (picked _ (test ∙ t))
 
-  pub shares-some : y ≡ false → n < granules h * channelCount h → length (i .shares) ≡ 8
-      → getD (i .shares) (4 * (n - c)) false ∷ getD (i .shares) (4 * (n - c) + 1) false ∷ getD (i .shares) (4 * (n - c) + 2) false ∷ getD (i .shares) (4 * (n - c) + 3) false ∷ []
+  pub shares-some : y ≡ false → n < granules h * channelCount h → length (i .scfsi) ≡ 8
+      → getD (i .scfsi) (4 * (n - c)) false ∷ getD (i .scfsi) (4 * (n - c) + 1) false ∷ getD (i .scfsi) (4 * (n - c) + 2) false ∷ getD (i .scfsi) (4 * (n - c) + 3) false ∷ []
       ≡ sharesOf h i n r
   unfolding sharesOf
   shares-some t k l =
       let g = second-granule h n k in
-      four-from (i .shares) (4 * (n - c)) (omega arith)
-      ∙ ap (λ (m : ℕ). take 4 (drop (4 * (n - m)) (i .shares))) e
+      four-from (i .scfsi) (4 * (n - c)) (omega arith)
+      ∙ ap (λ (m : ℕ). take 4 (drop (4 * (n - m)) (i .scfsi))) e
       ∙ sym (passed _ (test ∙ t))
 
 -- ---- whether any of four is set

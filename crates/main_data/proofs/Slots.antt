@@ -1,4 +1,4 @@
--- One slot by its parts: the factors, whichever granule 0's are, and the numbers from the bits after them.
+-- One slot by its parts: the factors, and the numbers from the bits after them.
 use mathlib.Core.Path.{_≡_, refl, sym, ap, _∙_}
 use mathlib.Core.Bool.{Bool, true, false, _&&_}
 use mathlib.Core.List.{List, [], _∷_}
@@ -10,13 +10,12 @@ use lib.ListN.{length, drop, replicate}
 use borrow.Author.Tests.{lt-ltb, le-ltb}
 use Rattle.standard.specs.Told.{Told, pick, told, refused}
 use Rattle.standard.specs.ToldLaws.{picked, passed}
-use Rattle.standard.specs.Bits.{bits, window}
+use Rattle.standard.specs.Bits.{bits, between}
 use Rattle.standard.specs.BitsLaws.{drop-bits}
 use Rattle.standard.specs.Codes.{wordOf}
-use Rattle.standard.specs.Record.{isShort}
-use Rattle.standard.specs.Factors.{planOf, planBits, factorsFrom, longFactors, shortFactors}
-use Rattle.standard.specs.FactorsLaws.{factors-length, plan-length, short-length, factors-bits}
-use Rattle.standard.specs.SharingLaws.{short-free}
+use Rattle.standard.specs.Record.{shapeOf}
+use Rattle.standard.specs.Factors.{Source, planOf, sourcesOf, planBits, factorsFrom, longFactors, shortFactors}
+use Rattle.standard.specs.FactorsLaws.{factors-bits}
 use Rattle.standard.specs.Numbers.{Numbers, halted, got, numbersOf}
 use Rattle.standard.specs.RefusalsLaws.{apart, one-reason}
 use Rattle.standard.specs.Slots.{Outcome, stopped, anyOf, withFactors, slotBy, slotOf, slotTold, numbersAfter}
@@ -27,50 +26,39 @@ use Rattle.codes.specs.Flat.{trees}
 use Rattle.codes.specs.Walk.{lookedUp}
 use Rattle.standard.specs.declared.Setting.{Setting}
 use Rattle.standard.specs.declared.SlotRecord.{SlotRecord}
+use Rattle.standard.specs.declared.Shape.{Shape}
 use Rattle.standard.specs.declared.SlotAnswer.{SlotAnswer}
 use Rattle.standard.specs.declared.SampleRate.{SampleRate}
 use Rattle.standard.specs.declared.Refusal.{Refusal}
 use Rattle.standard.specs.declared.Refusal.the-variants.{FactorOverrun, LostShare}
-use Rattle.main_data.specs.Slot.{factorsAt, SlotRead}
+use Rattle.main_data.specs.Slot.{SlotRead}
+use Rattle.scale_factors.specs.Groups.{factorsAt}
 use Rattle.standard.specs.declared.SlotOutcome.the-variants.{Read}
 
 module _ (g : Setting) (r : SlotRecord) where
-  abbrev plan : List Rattle.standard.specs.Factors.Source
-  plan = planOf (g .mpeg1) (g .intensity) (g .shares) r
-
-  -- a short block's factors are read without granule 0's, and no other has short factors
-  pub short-same : (old other : List ℕ) (b : List Bool)
-      → shortFactors (isShort (r .block)) (factorsFrom plan other b) ≡ shortFactors (isShort (r .block)) (factorsFrom plan old b)
-  unfolding shortFactors
-  short-same old other b = by (isShort (r .block)) refl
-    where
-      by : (t : Bool) → isShort (r .block) ≡ t → shortFactors t (factorsFrom plan other b) ≡ shortFactors t (factorsFrom plan old b)
-      by true e = ap (shortFactors true) (short-free (g .mpeg1) (g .intensity) (g .shares) r e other old b)
-      by false e = refl
-
-  pub short-39 : (old : List ℕ) (b : List Bool) → length (shortFactors (isShort (r .block)) (factorsFrom plan old b)) ≡ 39
-  short-39 old b = short-length (isShort (r .block)) _ (factors-length plan old b ∙ plan-length (g .mpeg1) (g .intensity) (g .shares) r)
+  abbrev plan : List Source
+  plan = sourcesOf (planOf g r)
 
   -- ---- the slot
   module _ (lost : Bool) (old s : List ℕ) (at : ℕ) where
-    pub slot-factors : r .length < planBits plan → slotOf g r lost old (bits s at (r .length)) ≡ stopped FactorOverrun
+    pub slot-factors : r .«part2_3_length» < planBits plan → slotOf g r lost old (bits s at (r .«part2_3_length»)) ≡ stopped FactorOverrun
     unfolding slotOf slotBy
     slot-factors h = picked _ (lt-ltb _ _ h)
 
-    module _ (h : planBits plan ≤ r .length) where
-      pub slot-lost : anyOf (g .shares) && lost ≡ true → slotOf g r lost old (bits s at (r .length)) ≡ stopped LostShare
+    module _ (h : planBits plan ≤ r .«part2_3_length») where
+      pub slot-lost : anyOf (g .shares) && lost ≡ true → slotOf g r lost old (bits s at (r .«part2_3_length»)) ≡ stopped LostShare
       unfolding slotOf slotBy
       slot-lost e = passed _ (le-ltb _ _ h) ∙ picked _ e
 
       pub slot-numbers : anyOf (g .shares) && lost ≡ false
-          → slotOf g r lost old (bits s at (r .length))
-          ≡ withFactors (isShort (r .block)) (factorsAt g r old s at) (numbersOf wordOf (g .rate) r (window s (at + planBits plan) (at + r .length)))
-      unfolding slotOf slotBy factorsAt window
+          → slotOf g r lost old (bits s at (r .«part2_3_length»))
+          ≡ withFactors (g .mpeg1) (shapeOf r) (factorsAt g r old s at) (numbersOf wordOf (g .rate) r (between s (at + planBits plan) (at + r .«part2_3_length»)))
+      unfolding slotOf slotBy between
       slot-numbers e =
-          let k : r .length - planBits plan ≡ at + r .length - (at + planBits plan) = omega arith in
+          let k : r .«part2_3_length» - planBits plan ≡ at + r .«part2_3_length» - (at + planBits plan) = omega arith in
           passed _ (le-ltb _ _ h)
           ∙ passed _ e
-          ∙ (λ j. withFactors (isShort (r .block)) (factors-bits plan old s at (r .length) h j) (numbersOf wordOf (g .rate) r ((drop-bits (planBits plan) s at (r .length) ∙ ap (bits s (at + planBits plan)) k) j)))
+          ∙ (λ j. withFactors (g .mpeg1) (shapeOf r) (factors-bits plan old s at (r .«part2_3_length») h j) (numbersOf wordOf (g .rate) r ((drop-bits (planBits plan) s at (r .«part2_3_length») ∙ ap (bits s (at + planBits plan)) k) j)))
 
 -- ---- the answers
 pub stopped-read : {o : Outcome} {d left : List ℤ} {a : SlotAnswer} {why : Refusal} → o ≡ stopped why → a ≡ slotTold (stopped why) → left ≡ d
@@ -79,26 +67,26 @@ unfolding numbersAfter
 stopped-read {d = d} e t l = record { answer = t ∙ sym (ap slotTold e); numbers = l ∙ sym (ap (λ (o : Outcome). numbersAfter o 0 d) e) }
 
 -- what the numbers came to is what their reader answered
-module _ (short : Bool) (fs : List ℕ) (d left : List ℤ) (a : SlotAnswer) where
+module _ (mpeg1 : Bool) (k : Shape) (fs : List ℕ) (d left : List ℤ) (a : SlotAnswer) where
   pub numbers-refused : (q : Numbers) (why : Refusal) → refused why ≡ countOf q → left ≡ slotLeft q d → a ≡ slotTold (stopped why)
-      → SlotRead (withFactors short fs q) d a left
+      → SlotRead (withFactors mpeg1 k fs q) d a left
   unfolding countOf slotLeft withFactors
   numbers-refused (halted r) why e l t = stopped-read (ap stopped (sym (one-reason e))) t l
   numbers-refused (got vs b) why e l t = apart e
 
   pub numbers-counted : (q : Numbers) (n : ℕ) → told n ≡ countOf q → left ≡ slotLeft q d
-      → a ≡ record { outcome = Read n; long = longFactors short fs; short = shortFactors short fs } → SlotRead (withFactors short fs q) d a left
+      → a ≡ record { outcome = Read n; long = longFactors mpeg1 k fs; short = shortFactors mpeg1 k fs } → SlotRead (withFactors mpeg1 k fs q) d a left
   unfolding countOf slotLeft withFactors slotTold numbersAfter
   numbers-counted (halted r) n e l t = apart (sym e)
   numbers-counted (got vs b) n e l t =
       let m : n ≡ length vs = cc in
       record {
-        answer = t ∙ (λ j. record { outcome = Read (m j); long = longFactors short fs; short = shortFactors short fs });
+        answer = t ∙ (λ j. record { outcome = Read (m j); long = longFactors mpeg1 k fs; short = shortFactors mpeg1 k fs });
         numbers = l;
       }
 
 -- the reader's outcome over the real trees, where the slot fits
-pub huffman-numbers : (links : List ℕ) (rate : SampleRate) (r : SlotRecord) (b : List Bool) (d : List ℤ) → links ≡ trees → length d ≡ 576 → r .pairs ≤ 288
+pub huffman-numbers : (links : List ℕ) (rate : SampleRate) (r : SlotRecord) (b : List Bool) (d : List ℤ) → links ≡ trees → length d ≡ 576 → r .«big_values» ≤ 288
     → slotNumbers (lookedUp links) rate r b d ≡ numbersOf wordOf rate r b
 huffman-numbers links rate r b d e l p =
     slot-fits (lookedUp links) rate r b d (omega arith) p

@@ -17,7 +17,7 @@ use Rattle.standard.specs.Told.{pick}
 use Rattle.standard.specs.ToldLaws.{picked, passed}
 use Rattle.standard.specs.Bits.{bits}
 use Rattle.standard.specs.Header.{granulesIn, channelsIn, isMpeg1, isTwo, granules, channelCount}
-use Rattle.standard.specs.Record.{absent, isShort}
+use Rattle.standard.specs.Record.{absent}
 use Rattle.standard.specs.Numbers.{padded}
 use Rattle.standard.specs.Slots.{Outcome, alone, stopped, holds, isStopped, longOf, anyOf, sharesOf, settingOf, mateOf, slotIn, slotOf, thenSlots, slotsFrom, slotsOf, slotTold, lackingSlot, slotsTold, numbersAfter, numbersFrom}
 use Rattle.standard.specs.CopyLaws.{paste-whole}
@@ -167,17 +167,17 @@ module _ (h : FrameHeader) (i : SideInfo) (s : List ℕ) (d₀ d : List ℤ) (an
       ∙ (λ j. (getD-take (granules h * channelCount h) (i .slots) k absent c ∙ sym e) j ∷ drop (sym (add-one k) j) (records h i))
 
   pub turning-turn : (r : SlotRecord) (lost : Bool) (old : List ℕ) (a : SlotAnswer) (left : List ℤ) → k < granules h * channelCount h
-      → r ≡ getD (i .slots) k absent → r .length < 4096 → Mated (channelCount h) answers k lost old
+      → r ≡ getD (i .slots) k absent → r .«part2_3_length» < 4096 → Mated (channelCount h) answers k lost old
       → a ≡ slotTold (slotIn s at (settingOf h i k r) r lost old)
       → left ≡ numbersAfter (slotIn s at (settingOf h i k r) r lost old) (576 * k) d
-      → Turning h i s d₀ left (set answers k a) (at + r .length) (k + 1)
+      → Turning h i s d₀ left (set answers k a) (at + r .«part2_3_length») (k + 1)
   unfolding slotsFrom thenSlots
   turning-turn r lost old a left c e small m t n =
       let o = slotIn s at (settingOf h i k r) r lost old in
       let few = four-at-most h in
       let p = mated-slot h i s at answers (w .done) k r lost old (w .count) (w .told) m in
       let q : 576 * k ≡ 0 + 576 * length (w .done) = omega (arith, w .count) in
-      let after = slotsFrom h i s (at + r .length) (w .done ++ (o ∷ [])) (drop (k + 1) (records h i)) in
+      let after = slotsFrom h i s (at + r .«part2_3_length») (w .done ++ (o ∷ [])) (drop (k + 1) (records h i)) in
       record {
         done = w .done ++ (o ∷ []);
         count = length-append (w .done) (o ∷ []) ∙ ap (λ (x : ℕ). x + 1) (w .count);
@@ -187,7 +187,7 @@ module _ (h : FrameHeader) (i : SideInfo) (s : List ℕ) (d₀ d : List ℤ) (an
         rest =
             w .rest
             ∙ ap (λ (l : List SlotRecord). w .done ++ slotsFrom h i s at (w .done) l) (next-record r c e)
-            ∙ ap (λ (x : Outcome). w .done ++ (x ∷ slotsFrom h i s (at + r .length) (w .done ++ (x ∷ [])) (drop (k + 1) (records h i)))) (sym p)
+            ∙ ap (λ (x : Outcome). w .done ++ (x ∷ slotsFrom h i s (at + r .«part2_3_length») (w .done ++ (x ∷ [])) (drop (k + 1) (records h i)))) (sym p)
             ∙ sym (append-assoc (w .done) (o ∷ []) after);
         told = told-turn answers (w .done) k a o (w .count) (omega arith) (w .told) t;
         numbers = n ∙ (λ j. numbersAfter o (q j) (w .numbers j)) ∙ sym (numbers-snoc (w .done) o 0 d₀);
@@ -205,8 +205,8 @@ module _ (h : FrameHeader) (i : SideInfo) (s : List ℕ) (d₀ d : List ℤ) (an
 -- ---- one turn as the code takes it: the record read with any default, the slot's own part lent
 pub record Reads (h : FrameHeader) (i : SideInfo) (k : ℕ) (r : SlotRecord) : Type 0 where
   pub same : r ≡ getD (i .slots) k absent
-  pub length-lt : r .length < 4096
-  pub pairs-le : r .pairs ≤ 288
+  pub length-lt : r .«part2_3_length» < 4096
+  pub pairs-le : r .«big_values» ≤ 288
 
 pub record-at : (h : FrameHeader) (i : SideInfo) → isSide h i ≡ true → (k : ℕ) → k < granules h * channelCount h → (z : SlotRecord)
     → Reads h i k (getD (i .slots) k z)
@@ -214,7 +214,7 @@ record-at h i e k c z =
     let f = four-slots h i e in
     let p : getD (i .slots) k z ≡ getD (i .slots) k absent = getD-within (i .slots) k z absent (omega (arith, four-at-most h)) in
     let small = small-record (isMpeg1 (h .version)) (getD (i .slots) k absent) (slot-record h i e k c) in
-    record { same = p; length-lt = omega (arith, ap (λ (r : SlotRecord). r .length) p, small .0); pairs-le = omega (arith, ap (λ (r : SlotRecord). r .pairs) p, small .1) }
+    record { same = p; length-lt = omega (arith, ap (λ (r : SlotRecord). r .«part2_3_length») p, small .0); pairs-le = omega (arith, ap (λ (r : SlotRecord). r .«big_values») p, small .1) }
 
 pub part-long : (k : ℕ) (d : List ℤ) → 576 * k + 576 ≤ length d → length (midOf (576 * k) (576 * k + 576 - 576 * k) d) ≡ 576
 part-long k d h =
@@ -225,7 +225,7 @@ pub turning-part : (h : FrameHeader) (i : SideInfo) (s : List ℕ) (d₀ d : Lis
     → isSide h i ≡ true → (r : SlotRecord) (g : Setting) (lost : Bool) (old : List ℕ) (a : SlotAnswer) (left : List ℤ) → k < granules h * channelCount h
     → Reads h i k r → g ≡ settingOf h i k r → Mated (channelCount h) answers k lost old
     → SlotRead (slotIn s at g r lost old) (midOf (576 * k) (576 * k + 576 - 576 * k) d) a left
-    → Turning h i s d₀ (putMid (576 * k) (576 * k + 576 - 576 * k) d left) (set answers k a) (at + r .length) (k + 1)
+    → Turning h i s d₀ (putMid (576 * k) (576 * k + 576 - 576 * k) d left) (set answers k a) (at + r .«part2_3_length») (k + 1)
 turning-part h i s d₀ d answers at k w side r g lost old a left c q e m t =
     let n : 576 * k + 576 - 576 * k ≡ 576 = omega arith in
     let o = slotIn s at (settingOf h i k r) r lost old in

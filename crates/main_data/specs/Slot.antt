@@ -7,11 +7,7 @@ use lib.IntN.{ℤ}
 use lib.ListN.{getD}
 use lib.Dec.{ltb}
 use Rattle.standard.specs.Told.{pick}
-use Rattle.standard.specs.Bits.{bits}
-use Rattle.standard.specs.Record.{isShort}
-use Rattle.standard.specs.Factors.{planOf, planBits, factorsFrom, longFactors, shortFactors}
 use Rattle.standard.specs.Slots.{Outcome, alone, slotTold, numbersAfter}
-use Rattle.standard.specs.declared.Setting.{Setting}
 use Rattle.standard.specs.declared.SlotRecord.{SlotRecord}
 use Rattle.standard.specs.declared.SlotAnswer.{SlotAnswer}
 use Rattle.standard.specs.declared.SlotOutcome.the-variants.{Read, NotRead, Lacking}
@@ -22,15 +18,6 @@ use Rattle.standard.specs.declared.SlotOutcome.{SlotOutcome}
 pub record SlotRead (o : Outcome) (d : List ℤ) (a : SlotAnswer) (left : List ℤ) : Type 0 where
   pub answer : a ≡ slotTold o
   pub numbers : left ≡ numbersAfter o 0 d
-
--- the factors that the first bits from a place on hold
-unfoldable pub factorsAt : Setting → SlotRecord → List ℕ → List ℕ → ℕ → List ℕ
-factorsAt g r old s at =
-    factorsFrom (planOf (g .mpeg1) (g .intensity) (g .shares) r) old (bits s at (planBits (planOf (g .mpeg1) (g .intensity) (g .shares) r)))
-
-pub record FactorsRead (g : Setting) (r : SlotRecord) (old s : List ℕ) (at : ℕ) (long short : List ℕ) : Type 0 where
-  pub long-is : long ≡ longFactors (isShort (r .block)) (factorsAt g r old s at)
-  pub short-is : short ≡ shortFactors (isShort (r .block)) (factorsAt g r old s at)
 
 -- ---- what a slot may share with
 unfoldable pub saidRefused : SlotOutcome → Bool
@@ -54,16 +41,16 @@ pub record Mated (channels : ℕ) (answers : List SlotAnswer) (k : ℕ) (lost : 
 abbrev pub pastRecord : SlotRecord
 pastRecord =
     record {
-      length = 0;
-      pairs = 0;
-      gain = 0;
-      compress = 0;
-      block = Long;
-      gains = [];
-      tables = [];
-      region0 = 0;
-      region1 = 0;
+      «part2_3_length» = 0;
+      «big_values» = 0;
+      «global_gain» = 0;
+      «scalefac_compress» = 0;
+      «block_type» = Long;
+      «subblock_gain» = [];
+      «table_select» = [];
+      «region0_count» = 0;
+      «region1_count» = 0;
       preflag = false;
-      scale = false;
-      count1 = false;
+      «scalefac_scale» = false;
+      «count1table_select» = false;
     }

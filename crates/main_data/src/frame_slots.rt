@@ -2,8 +2,8 @@
 use crate::answers::lacking_slots;
 use crate::setting::setting_of;
 use crate::slot::read_slot;
-use sizes::channel_count;
-use sizes::granules;
+use derived::channel_count;
+use derived::granules;
 use standard::FrameHeader;
 use standard::SideInfo;
 use standard::SlotAnswer;
@@ -79,7 +79,7 @@ pub(crate) fn slots_from(
         let end = from + 576;
         let a = read_slot(links, g, r, m.lost, old, main, at, &mut numbers[from..end]);
         answers[k] = a;
-        at += r.length as u32;
+        at += r.part2_3_length as u32;
         k += 1;
     }
     answers

@@ -3,7 +3,7 @@ use crate::answers::no_slots;
 use crate::frame_slots::slots_from;
 use codes::trees::trees;
 use header::is_header;
-use records::is_side_info;
+use record_check::is_side_info;
 use standard::FrameHeader;
 use standard::Refusal;
 use standard::SideInfo;

@@ -2,10 +2,7 @@
 use crate::answers::not_read;
 use huffman::HuffmanAnswer;
 use huffman::read_huffman;
-use scale_factors::factor_bits;
-use scale_factors::flat;
-use scale_factors::read_long_factors;
-use scale_factors::read_short_factors;
+use scale_factors::read_scale_factors;
 use standard::Refusal;
 use standard::Setting;
 use standard::SlotAnswer;
@@ -18,7 +15,7 @@ ghost use lib.ListN.{length};
 ghost use Rattle.standard.specs.Bits.{bits};
 ghost use Rattle.standard.specs.Slots.{anyOf, slotTold, slotIn, slotOf, numbersAfter};
 ghost use Rattle.codes.specs.Flat.{trees};
-ghost use Rattle.main_data.specs.Slot.{SlotRead, FactorsRead};
+ghost use Rattle.main_data.specs.Slot.{SlotRead};
 
 // Whether a sharing bit is set and the slot that it shares with was refused.
 fn share_lost(shares: [bool; 4], lost: bool) -> bool
@@ -39,23 +36,6 @@ fn share_lost(shares: [bool; 4], lost: bool) -> bool
     false
 }
 
-// The factors of a slot: long ones, and three windows of thirteen short bands one after the other.
-pub(crate) struct Factors {
-    long: [u8; 22],
-    short: [u8; 39],
-}
-
-fn factors_of(g: Setting, r: SlotRecord, old: [u8; 22], main: &[u8], at: u32) -> Factors
-    ensures { λ f. ⌜ FactorsRead g r old (now (main .entry)) at (f .long) (f .short) ⌝ }
-{
-    let mpeg1 = g.mpeg1;
-    let intensity = g.intensity;
-    let shares = g.shares;
-    let long = read_long_factors(mpeg1, intensity, shares, r, old, main, at);
-    let short = flat(read_short_factors(mpeg1, intensity, shares, r, main, at));
-    Factors { long, short }
-}
-
 // A slot whose bits are all there.
 fn read_whole(
     links: &[u16],
@@ -67,15 +47,16 @@ fn read_whole(
     at: u32,
     numbers: &mut [i32],
 ) -> SlotAnswer
-    requires { ⌜ (now links ≡ trees) × (length (now numbers) ≡ 576) × (r .pairs ≤ 288) × (r .length < 4096) × (at ≤ 16384) ⌝ }
-    ensures { λ a. ⌜ SlotRead (slotOf g r lost old (bits (now (main .entry)) at (r .length))) (now (numbers .entry)) a (now (numbers .exit)) ⌝ }
+    requires { ⌜ (now links ≡ trees) × (length (now numbers) ≡ 576) × (r .«big_values» ≤ 288) × (r .«part2_3_length» < 4096) × (at ≤ 16384) ⌝ }
+    ensures { λ a. ⌜ SlotRead (slotOf g r lost old (bits (now (main .entry)) at (r .«part2_3_length»))) (now (numbers .entry)) a (now (numbers .exit)) ⌝ }
 {
-    let shares = g.shares;
-    let length = r.length as u32;
-    let part2 = factor_bits(g.mpeg1, g.intensity, shares, r);
+    let length = r.part2_3_length as u32;
+    let f = read_scale_factors(g, r, old, main, at);
+    let part2 = f.bits;
     if length < part2 {
         return not_read(Refusal::FactorOverrun);
     }
+    let shares = g.shares;
     if share_lost(shares, lost) {
         return not_read(Refusal::LostShare);
     }
@@ -83,7 +64,6 @@ fn read_whole(
     match read_huffman(links, rate, r, main, at + part2, at + length, numbers) {
         HuffmanAnswer::Uncounted(why) => not_read(why),
         HuffmanAnswer::Counted { count } => {
-            let f = factors_of(g, r, old, main, at);
             let long = f.long;
             let short = f.short;
             SlotAnswer {
@@ -106,10 +86,10 @@ pub(crate) fn read_slot(
     at: u32,
     numbers: &mut [i32],
 ) -> SlotAnswer
-    requires { ⌜ (now links ≡ trees) × (length (now numbers) ≡ 576) × (r .pairs ≤ 288) × (r .length < 4096) × (at ≤ 16384) ⌝ }
+    requires { ⌜ (now links ≡ trees) × (length (now numbers) ≡ 576) × (r .«big_values» ≤ 288) × (r .«part2_3_length» < 4096) × (at ≤ 16384) ⌝ }
     ensures { λ a. ⌜ SlotRead (slotIn (now (main .entry)) at g r lost old) (now (numbers .entry)) a (now (numbers .exit)) ⌝ }
 {
-    let end = at as usize + r.length as usize;
+    let end = at as usize + r.part2_3_length as usize;
     if main.len() < (end + 7) / 8 {
         return not_read(Refusal::MissingBits);
     }

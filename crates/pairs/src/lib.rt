@@ -10,12 +10,13 @@ use standard::Quad;
 use standard::Refusal;
 ghost use mathlib.Core.Path.{_≡_};
 ghost use Prim.Native.Nat.{_+_, _-_, _/_, _%_, _<_, _^_};
-ghost use Rattle.standard.specs.Bits.{window};
+ghost use Rattle.standard.specs.Bits.{between};
 ghost use Rattle.standard.specs.Numbers.{twoOf, pairOf, quadFirst, quadOf};
 ghost use Rattle.codes.specs.Walk.{lookedUp};
 
+// The pair of a table at a place, with escapes and signs, and the bits used; or why the slot is refused there.
 pub fn pair(trees: &[u16], table: usize, s: &[u8], at: usize, end: usize) -> Pair
-    ensures { λ r. ⌜ r ≡ pairOf (lookedUp (now (trees .entry))) table (window (now (s .entry)) at end) ⌝ }
+    ensures { λ r. ⌜ r ≡ pairOf (lookedUp (now (trees .entry))) table (between (now (s .entry)) at end) ⌝ }
 {
     match lookup(trees, table, s, at, end) {
         Codeword::Coded { value, used } => {
@@ -37,7 +38,7 @@ pub fn pair(trees: &[u16], table: usize, s: &[u8], at: usize, end: usize) -> Pai
 fn signs(s: &[u8], at: usize, end: usize, value: u8, used: usize) -> Quad
     requires { ⌜ used + (end - at) < 2 ^ 64 ⌝ }
     ensures { λ r. ⌜ r
-        ≡ quadFirst value used (window (now (s .entry)) at end) (twoOf 0 (value / 8 % 2) (value / 4 % 2) (window (now (s .entry)) at end)) ⌝ }
+        ≡ quadFirst value used (between (now (s .entry)) at end) (twoOf 0 (value / 8 % 2) (value / 4 % 2) (between (now (s .entry)) at end)) ⌝ }
 {
     let Pair::Two {
         x: v,
@@ -60,8 +61,9 @@ fn signs(s: &[u8], at: usize, end: usize, value: u8, used: usize) -> Quad
     }
 }
 
+// The quad of a table at a place, with its signs, and the bits used; or that it does not end and is dropped; or that the bits start none.
 pub fn quad(trees: &[u16], table: usize, s: &[u8], at: usize, end: usize) -> Quad
-    ensures { λ r. ⌜ r ≡ quadOf (lookedUp (now (trees .entry))) table (window (now (s .entry)) at end) ⌝ }
+    ensures { λ r. ⌜ r ≡ quadOf (lookedUp (now (trees .entry))) table (between (now (s .entry)) at end) ⌝ }
 {
     match lookup(trees, table, s, at, end) {
         Codeword::Coded { value, used } => signs(s, at + used, end, value, used),

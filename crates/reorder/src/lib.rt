@@ -1,20 +1,20 @@
 // The short-block reorder: window by window before it, frequency by frequency after it.
+use derived::shape_of;
 use header::is_header;
-use records::is_record;
-use sizes::is_short;
+use record_check::is_record;
 use standard::FrameHeader;
 use standard::Refusal;
 use standard::SampleRate;
+use standard::Shape;
 use standard::SlotRecord;
 use standard::Verdict;
 use tables::bands::short_start;
 ghost use mathlib.Core.Path.{_≡_};
-ghost use mathlib.Core.List.{_++_};
 ghost use Prim.Native.Nat.{_+_, _*_, _≤_};
-ghost use lib.ListN.{length, take, drop, set};
+ghost use lib.ListN.{length, take, set};
 ghost use lib.Seq.{paste};
 ghost use Rattle.standard.specs.Refusals.{Answers};
-ghost use Rattle.standard.specs.Reorder.{orderOf, gathered, reorderOf};
+ghost use Rattle.standard.specs.Reorder.{firstShort, reorderedFrom, reorderOf};
 ghost use Rattle.standard.specs.ReorderLaws.{bandNumbers};
 
 // Three numbers from a place on.
@@ -61,13 +61,13 @@ fn first_576(numbers: &[i32]) -> [i32; 576]
     old
 }
 
-// The first 576 numbers of a short slot, band by band.
-fn reorder_short(rate: SampleRate, numbers: &mut [i32])
-    requires { ⌜ 576 ≤ length (now numbers) ⌝ }
-    ensures { λ _. ⌜ now (numbers .exit) ≡ gathered (orderOf rate) (take 576 (now (numbers .entry))) ++ drop 576 (now (numbers .entry)) ⌝ }
+// The first 576 numbers of a slot, band by band from its k-th short band on.
+fn reorder_from(rate: SampleRate, first: usize, numbers: &mut [i32])
+    requires { ⌜ (first ≤ 13) × (576 ≤ length (now numbers)) ⌝ }
+    ensures { λ _. ⌜ now (numbers .exit) ≡ reorderedFrom rate first (now (numbers .entry)) ⌝ }
 {
     let old = first_576(numbers);
-    let mut k = 0usize;
+    let mut k = first;
     while k < 13 {
         let b = short_start(rate, k) as usize;
         let c = short_start(rate, k + 1) as usize;
@@ -76,7 +76,18 @@ fn reorder_short(rate: SampleRate, numbers: &mut [i32])
     }
 }
 
-// The 576 numbers of a slot after its record: a short slot's in their new order, any other's as they are. Numbers past them stay.
+// The first of the thirteen bands that is a short one.
+fn first_short(shape: Shape) -> usize
+    ensures { λ r. ⌜ r ≡ firstShort shape ⌝ }
+{
+    match shape {
+        Shape::AllLong => 13,
+        Shape::AllShort => 0,
+    }
+}
+
+// The 576 numbers of a slot after its record: those of its short bands in their new order, any others as they are. Numbers past them
+// stay.
 pub fn reorder(h: FrameHeader, r: SlotRecord, numbers: &mut [i32]) -> Verdict
     ensures { λ v. ⌜ Answers (now (numbers .entry)) v (now (numbers .exit)) (reorderOf h r (now (numbers .entry))) ⌝ }
 {
@@ -85,11 +96,10 @@ pub fn reorder(h: FrameHeader, r: SlotRecord, numbers: &mut [i32]) -> Verdict
     }
     if is_header(h) {
         if is_record(h, r) {
-            let b = r.block;
-            if is_short(b) {
-                let rate = h.rate;
-                reorder_short(rate, numbers);
-            }
+            let block = r.block_type;
+            let first = first_short(shape_of(block));
+            let rate = h.rate;
+            reorder_from(rate, first, numbers);
             return Verdict::Accepted;
         }
     }

@@ -1,10 +1,10 @@
 // The bit reservoir: what a frame keeps of it and adds to it, in lent bytes.
+use lent_bytes::put;
+use lent_bytes::slide;
 use standard::Refusal;
 use standard::Reservoir;
 use standard::ReservoirAnswer;
 use standard::Verdict;
-use window::put;
-use window::slide;
 ghost use mathlib.Core.Path.{_≡_};
 ghost use Rattle.standard.specs.Reservoir.{turnIn, Turned, «emptied»};
 

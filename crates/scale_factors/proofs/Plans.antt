@@ -1,96 +1,136 @@
--- A slot's plan by value: it is the definition's plan, it can be read, and what is read by it into zeros is the definition's factors.
+-- A slot's plan: its bits group by group, and that it can be read; and its factors, read over zeros, at their places of the long and of
+-- the short ones.
 use mathlib.Core.Path.{_≡_, refl, sym, ap, _∙_, subst}
 use mathlib.Core.Bool.{Bool, true, false}
-use mathlib.Core.List.{List, [], _∷_, _++_}
-use Prim.Native.Nat.{ℕ, _+_, _<_, _≤_}
-use native.Mathlib.Nat.{zero-add}
+use mathlib.Core.List.{List, _∷_, _++_}
+use Prim.Native.Nat.{ℕ, zero, suc, _+_, _-_, _<_, _≤_}
+use native.Mathlib.Nat.{sub-zero, zero-sub, zero-add}
 use native.Mathlib.Omega.{arith}
-use lib.ListN.{length, getD, drop, replicate, length-replicate}
-use lib.Seq.{sets, sets-eq}
-use Rattle.standard.specs.Told.{pick}
-use Rattle.standard.specs.ToldLaws.{passed, never}
+use lib.ListN.{length, getD, take, drop, replicate, length-replicate, length-drop}
+use lib.Seq.{take-all, length-take-le, take-append-le, drop-append-le, take-at, sets-eq}
+use Rattle.lent_bytes.specs.Put.{Put}
+use Rattle.lent_bytes.specs.PutLaws.{put-whole}
+use Rattle.standard.specs.ToldLaws.{never}
+use Rattle.standard.specs.Record.{shapeOf}
 use Rattle.standard.specs.Bits.{bits}
-use Rattle.standard.specs.Record.{isShort}
-use Rattle.standard.specs.Factors.{Source, planOf, planBits, factorsFrom, longFactors, shortFactors}
-use Rattle.standard.specs.FactorsLaws.{groupsFrom, sharedOf, plan-bits-append, plan-groups, plan-length, plan-small, lengths-small, short-unshares, plan-factors-length}
+use Rattle.standard.specs.Factors.{planBy, planOf, group, groupsFrom, sourcesOf, planBits, longCount, shortCount, shortFrom, longFactors, shortFactors, bandsOf}
+use Rattle.standard.specs.FactorsLaws.{factorCount, few-factors, plan-bits-append, plan-length, lengths-small, shape-unshares, plan-factors-length, short-length}
+use Rattle.standard.specs.declared.Setting.{Setting}
 use Rattle.standard.specs.declared.SlotRecord.{SlotRecord}
-use Rattle.scale_factors.specs.Groups.{factorsAt, planIn, groupIn, groupsIn, filled, Fit}
-use Rattle.scale_factors.specs.declared.plan.Plan.{Plan}
+use Rattle.standard.specs.declared.Plan.{Plan}
+use Rattle.standard.specs.declared.Shape.{Shape}
+use Rattle.standard.specs.declared.Shape.the-variants.{AllLong, AllShort}
+use Rattle.scale_factors.specs.Flat.{flatOf, flat-bands}
+use Rattle.scale_factors.specs.Groups.{Fit, filled, factorsAt}
 
-four-bits : (p : Plan) → planBits (groupIn p 0) + planBits (groupIn p 1) + planBits (groupIn p 2) + planBits (groupIn p 3) ≡ planBits (groupsIn p 0 4)
+pub four-bits : (p : Plan) → planBits (group p 0) + planBits (group p 1) + planBits (group p 2) + planBits (group p 3) ≡ planBits (sourcesOf p)
 unfolding groupsFrom planBits
 four-bits p = simp plan-bits-append (omega arith)
 
--- the places that are needed
-most : (short : Bool) → pick short 36 21 ≤ 36
-unfolding pick
-most true = omega arith
-most false = omega arith
+-- only long bands share, and there are no more than granule 0 has
+share-long : (mpeg1 intensity : Bool) (shares : List Bool) (k : Shape) (c g : ℕ) → getD (planBy mpeg1 intensity shares k c .shares) g false ≡ true → factorCount mpeg1 k ≤ 22
+share-long mpeg1 intensity shares AllLong c g e = omega arith
+share-long mpeg1 intensity shares AllShort c g e = never (sym (shape-unshares mpeg1 intensity shares AllShort c refl g) ∙ e)
 
-pub short-room : (short : Bool) → pick short 36 21 ≤ 39
-short-room short = omega (arith, most short)
+pub plan-fit : (g : Setting) (r : SlotRecord) {p : Plan} → p ≡ planOf g r → (at : ℕ) → at < 4294967296 → Fit p 36 at
+unfolding planOf
+plan-fit g r e at l = subst (λ (p : Plan). Fit p 36 at) (sym e)
+    (record {
+      narrow = lengths-small (g .mpeg1) (g .intensity) (g .shares) (shapeOf r) (r .«scalefac_compress»);
+      few = omega (arith, plan-length g r, few-factors (g .mpeg1) (shapeOf r));
+      room = omega (arith, plan-length g r, few-factors (g .mpeg1) (shapeOf r));
+      mate = λ n f. omega (arith, plan-length g r, share-long (g .mpeg1) (g .intensity) (g .shares) (shapeOf r) (r .«scalefac_compress») n f);
+      near = l;
+    })
 
-pub long-room : {short : Bool} → short ≡ false → pick short 36 21 ≤ 22
-long-room e = omega (arith, passed {A = ℕ} 36 {y = 21} e)
+-- ---- a part put at a place among zeros
+abbrev zeros : ℕ → List ℕ
+zeros n = replicate n 0
 
--- only long blocks share
-share-long : (mpeg1 short : Bool) (shares : List Bool) (g : ℕ) → getD (sharedOf mpeg1 short shares) g false ≡ true → pick short 36 21 ≤ 22
-share-long mpeg1 false shares g e = long-room refl
-share-long mpeg1 true shares g e = never (sym (short-unshares mpeg1 shares refl g) ∙ e)
+take-zeros : (k n : ℕ) → k ≤ n → take k (zeros n) ≡ zeros k
+take-zeros zero n h = refl
+take-zeros (suc k) zero h = absurd (omega arith)
+take-zeros (suc k) (suc n) h = ap (λ (l : List ℕ). 0 ∷ l) (take-zeros k n (omega arith))
 
-module _ (mpeg1 intensity : Bool) (shares : List Bool) (r : SlotRecord) (p : Plan) (is : p ≡ planIn mpeg1 intensity (isShort (r .block)) (r .compress) shares) where
-  pub plan-is : groupsIn p 0 4 ≡ planOf mpeg1 intensity shares r
-  unfolding planIn
-  plan-is = ap (λ (q : Plan). groupsIn q 0 4) is ∙ sym (plan-groups mpeg1 intensity shares r)
+drop-zeros : (k n : ℕ) → drop k (zeros n) ≡ zeros (n - k)
+drop-zeros zero n = rw sub-zero
+drop-zeros (suc k) zero = rw zero-sub
+drop-zeros (suc k) (suc n) = let p : n - k ≡ suc n - suc k = omega arith in drop-zeros k n ∙ ap zeros p
 
-  pub plan-bits : planBits (groupIn p 0) + planBits (groupIn p 1) + planBits (groupIn p 2) + planBits (groupIn p 3) ≡ planBits (planOf mpeg1 intensity shares r)
-  plan-bits = four-bits p ∙ ap planBits plan-is
+module _ (fs : List ℕ) (n end : ℕ) (within : end ≤ length fs) where
+  -- the members from the n-th to the end, at a place of m
+  pub part-put : (m at : ℕ) {r : ℕ} {left : List ℕ} → Put (zeros m) at (take (end - n) (drop n fs)) r left → at + (end - n) ≤ m
+      → left ≡ zeros at ++ take (end - n) (drop n fs) ++ zeros (m - (at + (end - n)))
+  part-put m at p h =
+      let part = take (end - n) (drop n fs) in
+      let l : length part ≡ end - n = length-take-le (end - n) (drop n fs) (omega (arith, length-drop n fs)) in
+      let w : length (zeros m) ≡ m = length-replicate m 0 in
+      put-whole p (omega arith)
+      ∙ ap (λ (k : ℕ). take at (zeros m) ++ take k part ++ drop (at + k) (zeros m)) l
+      ∙ (λ j. take-zeros at m (omega arith) j ++ take-all (end - n) part (omega arith) j ++ drop-zeros (at + (end - n)) m j)
 
-  pub plan-near : planBits (groupIn p 0) + planBits (groupIn p 1) + planBits (groupIn p 2) + planBits (groupIn p 3) ≤ 180
-  plan-near = omega (arith, plan-bits, plan-small mpeg1 intensity shares r)
+-- the first n, at the first of m places
+pub first-put : (fs : List ℕ) (m n : ℕ) {r : ℕ} {left : List ℕ} → n ≤ length fs → n ≤ m → Put (zeros m) 0 (take (n - 0) (drop 0 fs)) r left
+    → left ≡ take n fs ++ zeros (m - n)
+first-put fs m n within h p =
+    let q : n - 0 ≡ n = omega arith in
+    part-put fs 0 n within m 0 p (omega arith) ∙ (λ j. take (q j) fs ++ zeros (m - (zero-add (n - 0) ∙ q) j))
 
-  plan-count : length (groupsIn p 0 4) ≡ pick (isShort (r .block)) 36 21
-  plan-count = ap length plan-is ∙ plan-length mpeg1 intensity shares r
+-- ---- the factors of a slot at their places
+-- no kind of slot has more than 21 long ones, and the short ones end before the last band
+pub places : (mpeg1 : Bool) (k : Shape) → (longCount mpeg1 k ≤ 21) × (shortFrom k + shortCount k ≤ 36)
+places mpeg1 AllLong = (omega arith, omega arith)
+places mpeg1 AllShort = (omega arith, omega arith)
 
-  pub plan-fit : (n at : ℕ) → pick (isShort (r .block)) 36 21 ≤ n → at < 4294967296 → Fit p n at
-  unfolding planIn
-  plan-fit n at h l =
-      record {
-        narrow = λ g. subst (λ (q : Plan). getD (q .lengths) g 0 ≤ 5) (sym is) (lengths-small mpeg1 intensity (isShort (r .block)) (r .compress) g);
-        few = omega (arith, plan-count, most (isShort (r .block)));
-        room = omega (arith, plan-count);
-        mate = λ g e. omega (arith, plan-count, share-long mpeg1 (isShort (r .block)) shares g (ap (λ (q : Plan). getD (q .shares) g false) (sym is) ∙ e));
-        near = l;
-      }
+-- what follows the factors is not taken
+module _ (mpeg1 : Bool) (k : Shape) (l more : List ℕ) (e : length l ≡ factorCount mpeg1 k) where
+  long-taken : take (longCount mpeg1 k) (l ++ more) ++ zeros (22 - longCount mpeg1 k) ≡ longFactors mpeg1 k l
+  unfolding longFactors
+  long-taken = ap (λ (x : List ℕ). x ++ zeros (22 - longCount mpeg1 k)) (take-append-le (longCount mpeg1 k) l more (omega arith))
 
-  -- the factors of the plan, and what is left of n zeros
-  read-zeros : (n : ℕ) → pick (isShort (r .block)) 36 21 ≤ n → (old s : List ℕ) (at : ℕ)
-      → filled (replicate n 0) 0 (groupsIn p 0 4) old s at
-      ≡ factorsAt mpeg1 intensity shares r old s at ++ drop (pick (isShort (r .block)) 36 21) (replicate n 0)
-  unfolding filled
-  read-zeros n h old s at =
-      let fs = factorsAt mpeg1 intensity shares r old s at in
-      let l : length fs ≡ pick (isShort (r .block)) 36 21 = plan-factors-length mpeg1 intensity shares r old (bits s at (planBits (planOf mpeg1 intensity shares r))) in
-      ap (λ (qs : List Source). sets (replicate n 0) 0 (factorsFrom qs old (bits s at (planBits qs)))) plan-is
-      ∙ sets-eq fs (replicate n 0) 0 (omega (arith, length-replicate {A = ℕ} n 0))
-      ∙ ap (λ (k : ℕ). fs ++ drop k (replicate n 0)) (zero-add (length fs) ∙ l)
+  short-taken :
+      flatOf (bandsOf 13 (zeros (shortFrom k) ++ take (shortCount k) (drop (longCount mpeg1 k) (l ++ more)) ++ zeros (39 - (shortFrom k + shortCount k))))
+      ≡ shortFactors mpeg1 k l
+  unfolding shortFactors
+  short-taken =
+      let n = longCount mpeg1 k in
+      let c = shortCount k in
+      let left : length (drop n l) ≡ c = omega (arith, length-drop n l) in
+      ap (λ (x : List ℕ). flatOf (bandsOf 13 (zeros (shortFrom k) ++ x ++ zeros (39 - (shortFrom k + c)))))
+      (ap (take c) (drop-append-le n l more (omega arith)) ∙ take-at (drop n l) more c left)
+      ∙ flat-bands (shortFactors mpeg1 k l) (short-length mpeg1 k l e)
 
-  pub read-long : (old s : List ℕ) (at : ℕ) → isShort (r .block) ≡ false
-      → filled (replicate 22 0) 0 (groupsIn p 0 4) old s at
-      ≡ longFactors (isShort (r .block)) (factorsAt mpeg1 intensity shares r old s at)
-  unfolding pick longFactors
-  read-long old s at e =
-      let fs = factorsAt mpeg1 intensity shares r old s at in
-      read-zeros 22 (long-room e) old s at
-      ∙ ap (λ (x : Bool). fs ++ drop (pick x 36 21) (replicate 22 0)) e
-      ∙ ap (λ (x : Bool). longFactors x fs) (sym e)
+-- a plan's factors written over zeros are the factors, and then zeros
+module _ (g : Setting) (r : SlotRecord) (old s : List ℕ) (at : ℕ) (p : Plan) (fs : List ℕ)
+    (own : p ≡ planOf g r) (read : fs ≡ filled (zeros 36) 0 (sourcesOf p) old s at) where
+  count : length (factorsAt g r old s at) ≡ factorCount (g .mpeg1) (shapeOf r)
+  count = plan-factors-length g r old (bits s at (planBits (sourcesOf (planOf g r))))
 
-  pub read-short : (old s : List ℕ) (at : ℕ) → isShort (r .block) ≡ true
-      → filled (replicate 39 0) 0 (groupsIn p 0 4) old s at
-      ≡ shortFactors (isShort (r .block)) (factorsAt mpeg1 intensity shares r old s at)
-  unfolding pick shortFactors
-  read-short old s at e =
-      let fs = factorsAt mpeg1 intensity shares r old s at in
-      read-zeros 39 (short-room (isShort (r .block))) old s at
-      ∙ ap (λ (x : Bool). fs ++ drop (pick x 36 21) (replicate 39 0)) e
-      ∙ ap (λ (x : Bool). shortFactors x fs) (sym e)
+  more : List ℕ
+  more = drop (0 + length (factorsAt g r old s at)) (zeros 36)
+
+  factors-first : fs ≡ factorsAt g r old s at ++ more
+  unfolding filled more
+  factors-first =
+      read
+      ∙ ap (λ (q : Plan). filled (zeros 36) 0 (sourcesOf q) old s at) own
+      ∙ sets-eq (factorsAt g r old s at) (zeros 36) 0 (omega (arith, count, few-factors (g .mpeg1) (shapeOf r)))
+
+  module _ (k : Shape) (n : ℕ) (shape : k ≡ shapeOf r) (long : n ≡ longCount (g .mpeg1) k) where
+    long-many : n ≡ longCount (g .mpeg1) (shapeOf r)
+    long-many = long ∙ ap (longCount (g .mpeg1)) shape
+
+    pub long-read : take n fs ++ zeros (22 - n) ≡ longFactors (g .mpeg1) (shapeOf r) (factorsAt g r old s at)
+    long-read =
+        (λ j. take (long-many j) (factors-first j) ++ zeros (22 - long-many j))
+        ∙ long-taken (g .mpeg1) (shapeOf r) (factorsAt g r old s at) more count
+
+    pub short-read : (c from : ℕ) (a : List (List ℕ)) → c ≡ shortCount k → from ≡ shortFrom k
+        → a ≡ bandsOf 13 (zeros from ++ take (n + c - n) (drop n fs) ++ zeros (39 - (from + (n + c - n))))
+        → flatOf a ≡ shortFactors (g .mpeg1) (shapeOf r) (factorsAt g r old s at)
+    short-read c from a short first e =
+        let d : n + c - n ≡ shortCount (shapeOf r) = omega (arith, short ∙ ap shortCount shape) in
+        let f : from ≡ shortFrom (shapeOf r) = first ∙ ap shortFrom shape in
+        ap flatOf e
+        ∙ (λ j. flatOf (bandsOf 13 (zeros (f j) ++ take (d j) (drop (long-many j) (factors-first j)) ++ zeros (39 - (f j + d j)))))
+        ∙ short-taken (g .mpeg1) (shapeOf r) (factorsAt g r old s at) more count

@@ -12,10 +12,10 @@ use lib.Seq.{sets, length-sets, getD-drop, drop-drop}
 use Rattle.standard.specs.Told.{pick}
 use Rattle.standard.specs.Bits.{bits, value, fieldAt}
 use Rattle.standard.specs.BitsLaws.{take-bits, drop-bits}
-use Rattle.standard.specs.Factors.{Source, shared, coded, planBits, factorsFrom}
-use Rattle.standard.specs.FactorsLaws.{widthOf, factorBy, group, groupsFrom, source-small, group-length, group-small, groups-small, plan-bits-cons, plan-bits-append, factors-cons, factors-length, factors-append, factors-bits}
-use Rattle.scale_factors.specs.Groups.{sourceIn, groupIn, groupsIn, filled, Group, Fit}
-use Rattle.scale_factors.specs.declared.plan.Plan.{Plan}
+use Rattle.standard.specs.Factors.{group, groupsFrom, sourcesOf, Source, shared, coded, planBits, factorsFrom}
+use Rattle.standard.specs.FactorsLaws.{widthOf, factorBy, source-small, group-length, group-small, groups-small, plan-bits-cons, plan-bits-append, factors-cons, factors-length, factors-append, factors-bits}
+use Rattle.scale_factors.specs.Groups.{sourceIn, filled, Group, Fit}
+use Rattle.standard.specs.declared.Plan.{Plan}
 
 sets-append : {A : Type 0} (us vs : List A) (l : List A) (i : ℕ) → sets l i (us ++ vs) ≡ sets (sets l i us) (i + length us) vs
 sets-append [] vs l i = ap (λ (k : ℕ). sets l k vs) (sym (add-zero i))
@@ -76,7 +76,7 @@ module _ (answer : List ℕ) (stop : ℕ) (fs : List ℕ) (i : ℕ) (old s : Lis
   reading-end r = (omega (arith, r .upto), sym (r .same))
 
 -- ---- the factors of a group, one by one: they have one source
-pub own-group : (p : Plan) (g first : ℕ) → replicate (first + getD (p .counts) g 0 - first) (sourceIn p g) ≡ groupIn p g
+pub own-group : (p : Plan) (g first : ℕ) → replicate (first + getD (p .counts) g 0 - first) (sourceIn p g) ≡ group p g
 unfolding group
 own-group p g first = let n : first + getD (p .counts) g 0 - first ≡ getD (p .counts) g 0 = omega arith in ap (λ (k : ℕ). replicate k (sourceIn p g)) n
 
@@ -107,8 +107,8 @@ module _ (x : Source) (old s : List ℕ) (at : ℕ) (before : List ℕ) (first e
           reads = subst (λ (n : ℕ). Reading answer stop (set fs i v) (i + 1) rest old s (place + n)) (sym e) (reading-one answer stop fs i old s place x rest v r q);
         }
 
-    module _ (p : Plan) (g : ℕ) (e : replicate (end - first) x ≡ groupIn p g) where
-      pub group-end : end ≤ i → (place ≡ at + planBits (groupIn p g)) × (fs ≡ filled before first (groupIn p g) old s at)
+    module _ (p : Plan) (g : ℕ) (e : replicate (end - first) x ≡ group p g) where
+      pub group-end : end ≤ i → (place ≡ at + planBits (group p g)) × (fs ≡ filled before first (group p g) old s at)
       group-end h =
           let answer = filled before first (replicate (end - first) x) old s at in
           let stop = at + planBits (replicate (end - first) x) in
@@ -118,49 +118,49 @@ module _ (x : Source) (old s : List ℕ) (at : ℕ) (before : List ℕ) (first e
 
       -- no place within a group is far
       pub group-near : getD (p .lengths) g 0 ≤ 5 → place ≤ at + 5 * getD (p .counts) g 0
-      group-near h = omega (arith, w .reads .upto, ap planBits e, group-small (p .counts) (p .lengths) (p .shares) g h)
+      group-near h = omega (arith, w .reads .upto, ap planBits e, group-small p g h)
 
 -- ---- the groups of a plan, one by one
 pub record InPlan (p : Plan) (old s : List ℕ) (at : ℕ) (before : List ℕ) (fs : List ℕ) (place done g : ℕ) : Type 0 where
   pub within : g ≤ 4
   pub long : length fs ≡ length before
-  pub count : done + length (groupsIn p g (4 - g)) ≡ length (groupsIn p 0 4)
-  pub reads : Reading (filled before 0 (groupsIn p 0 4) old s at) (at + planBits (groupsIn p 0 4)) fs done (groupsIn p g (4 - g)) old s place
+  pub count : done + length (groupsFrom p g (4 - g)) ≡ length (sourcesOf p)
+  pub reads : Reading (filled before 0 (sourcesOf p) old s at) (at + planBits (sourcesOf p)) fs done (groupsFrom p g (4 - g)) old s place
 
 -- the next group, and the rest
-next-group : (p : Plan) (g : ℕ) → g < 4 → groupsIn p g (4 - g) ≡ groupIn p g ++ groupsIn p (g + 1) (4 - (g + 1))
+next-group : (p : Plan) (g : ℕ) → g < 4 → groupsFrom p g (4 - g) ≡ group p g ++ groupsFrom p (g + 1) (4 - (g + 1))
 unfolding groupsFrom
 next-group p g h =
     let k : 4 - g ≡ suc (4 - (g + 1)) = omega arith in
-    ap (groupsIn p g) k ∙ ap (λ (n : ℕ). groupIn p g ++ groupsIn p n (4 - (g + 1))) (sym (add-one g))
+    ap (groupsFrom p g) k ∙ ap (λ (n : ℕ). group p g ++ groupsFrom p n (4 - (g + 1))) (sym (add-one g))
 
 module _ (p : Plan) (old s : List ℕ) (at : ℕ) (before : List ℕ) where
   pub plan-begin : InPlan p old s at before before at 0 0
   plan-begin =
-      record { within = omega arith; long = refl; count = omega arith; reads = reading-begin before 0 (groupsIn p 0 4) old s at }
+      record { within = omega arith; long = refl; count = omega arith; reads = reading-begin before 0 (sourcesOf p) old s at }
 
   module _ (fs : List ℕ) (place done g : ℕ) (w : InPlan p old s at before fs place done g) where
     pub plan-group : Fit p (length before) at → g < 4 → Group p g done (length fs) place
     plan-group f h =
         let n = getD (p .counts) g 0 in
-        let l : done + n ≤ length (groupsIn p 0 4) = omega (arith, w .count, simp length-append at (ap length (next-group p g h)), group-length (p .counts) (p .lengths) (p .shares) g) in
+        let l : done + n ≤ length (sourcesOf p) = omega (arith, w .count, simp length-append at (ap length (next-group p g h)), group-length p g) in
         record {
           one-of = h;
           narrow = f .narrow g;
           few = omega (arith, f .few);
           room = omega (arith, f .room, w .long);
           mate = λ e. omega (arith, f .mate g e);
-          near = omega (arith, f .near, w .reads .upto, f .few, groups-small (p .counts) (p .lengths) (p .shares) (f .narrow) 0 4);
+          near = omega (arith, f .near, w .reads .upto, f .few, groups-small p (f .narrow) 0 4);
         }
 
-    pub plan-turn : (fs′ : List ℕ) (place′ : ℕ) → g < 4 → (place′ ≡ place + planBits (groupIn p g)) × (fs′ ≡ filled fs done (groupIn p g) old s place)
+    pub plan-turn : (fs′ : List ℕ) (place′ : ℕ) → g < 4 → (place′ ≡ place + planBits (group p g)) × (fs′ ≡ filled fs done (group p g) old s place)
         → InPlan p old s at before fs′ place′ (done + getD (p .counts) g 0) (g + 1)
     plan-turn fs′ place′ h e =
-        let answer = filled before 0 (groupsIn p 0 4) old s at in
-        let stop = at + planBits (groupsIn p 0 4) in
-        let own = groupIn p g in
-        let rest = groupsIn p (g + 1) (4 - (g + 1)) in
-        let n = group-length (p .counts) (p .lengths) (p .shares) g in
+        let answer = filled before 0 (sourcesOf p) old s at in
+        let stop = at + planBits (sourcesOf p) in
+        let own = group p g in
+        let rest = groupsFrom p (g + 1) (4 - (g + 1)) in
+        let n = group-length p g in
         let r : Reading answer stop fs done (own ++ rest) old s place = subst (λ (ps : List Source). Reading answer stop fs done ps old s place) (next-group p g h) (w .reads) in
         let r′ : Reading answer stop fs′ (done + length own) rest old s (place + planBits own) = reading-part answer stop fs done old s place own rest r (e .1) in
         record {
@@ -170,10 +170,10 @@ module _ (p : Plan) (old s : List ℕ) (at : ℕ) (before : List ℕ) where
           reads = subst (λ (k : ℕ). Reading answer stop fs′ (done + k) rest old s place′) n (subst (Reading answer stop fs′ (done + length own) rest old s) (sym (e .0)) r′);
         }
 
-    pub plan-end : 4 ≤ g → fs ≡ filled before 0 (groupsIn p 0 4) old s at
+    pub plan-end : 4 ≤ g → fs ≡ filled before 0 (sourcesOf p) old s at
     unfolding groupsFrom
     plan-end h =
-        let answer = filled before 0 (groupsIn p 0 4) old s at in
-        let stop = at + planBits (groupsIn p 0 4) in
+        let answer = filled before 0 (sourcesOf p) old s at in
+        let stop = at + planBits (sourcesOf p) in
         let k : 4 - g ≡ 0 = omega arith in
-        reading-end answer stop fs done old s place (subst (λ (n : ℕ). Reading answer stop fs done (groupsIn p g n) old s place) k (w .reads)) .1
+        reading-end answer stop fs done old s place (subst (λ (n : ℕ). Reading answer stop fs done (groupsFrom p g n) old s place) k (w .reads)) .1

@@ -1,5 +1,4 @@
--- The plan of a slot as four groups by value, and what is read by it. That the groups spell the definition's plan is the law
--- `plan-groups` of FactorsLaws.
+-- What is read by a plan.
 use mathlib.Core.Path.{_≡_}
 use mathlib.Core.Bool.{Bool, true, false}
 use mathlib.Core.List.{List}
@@ -8,22 +7,14 @@ use lib.ListN.{length, getD, drop}
 use lib.Seq.{sets}
 use Rattle.standard.specs.Told.{pick}
 use Rattle.standard.specs.Bits.{bits}
-use Rattle.standard.specs.Factors.{Source, shared, coded, planOf, planBits, factorsFrom}
-use Rattle.standard.specs.FactorsLaws.{group, groupsFrom, countsOf, lengthsOf, sharedOf}
+use Rattle.standard.specs.Factors.{Source, shared, coded, planOf, sourcesOf, planBits, factorsFrom}
+use Rattle.standard.specs.declared.Setting.{Setting}
 use Rattle.standard.specs.declared.SlotRecord.{SlotRecord}
-use Rattle.scale_factors.specs.declared.plan.Plan.{Plan}
+use Rattle.standard.specs.declared.Plan.{Plan}
 
 -- the factors of a slot whose bits start at a place of s, granule 0's being `old`
-abbrev pub factorsAt : Bool → Bool → List Bool → SlotRecord → List ℕ → List ℕ → ℕ → List ℕ
-factorsAt mpeg1 intensity shares r old s at =
-    factorsFrom (planOf mpeg1 intensity shares r) old (bits s at (planBits (planOf mpeg1 intensity shares r)))
-
--- ---- four groups
-abbrev pub planned : List ℕ → List ℕ → List Bool → Plan
-planned ns ws xs = record { counts = ns; lengths = ws; shares = xs }
-
-unfoldable pub planIn : Bool → Bool → Bool → ℕ → List Bool → Plan
-planIn mpeg1 intensity short c shares = planned (countsOf mpeg1 intensity short c) (lengthsOf mpeg1 intensity short c) (sharedOf mpeg1 short shares)
+abbrev pub factorsAt : Setting → SlotRecord → List ℕ → List ℕ → ℕ → List ℕ
+factorsAt g r old s at = factorsFrom (sourcesOf (planOf g r)) old (bits s at (planBits (sourcesOf (planOf g r))))
 
 -- where each factor of a group comes from
 abbrev pub sourceOf : Bool → ℕ → Source
@@ -31,13 +22,6 @@ sourceOf shares w = pick shares shared (coded w)
 
 abbrev pub sourceIn : Plan → ℕ → Source
 sourceIn p g = sourceOf (getD (p .shares) g false) (getD (p .lengths) g 0)
-
-abbrev pub groupIn : Plan → ℕ → List Source
-groupIn p g = group (p .counts) (p .lengths) (p .shares) g
-
--- k groups from the g-th on
-abbrev pub groupsIn : Plan → ℕ → ℕ → List Source
-groupsIn p g k = groupsFrom (p .counts) (p .lengths) (p .shares) g k
 
 -- ---- what helpers promise and ask
 -- fs after the factors of a plan, read from a bit place of s on, are written from its i-th place on
@@ -56,7 +40,7 @@ pub record Group (p : Plan) (g first n at : ℕ) : Type 0 where
 -- so for a plan
 pub record Fit (p : Plan) (n at : ℕ) : Type 0 where
   pub narrow : (g : ℕ) → getD (p .lengths) g 0 ≤ 5
-  pub few : length (groupsIn p 0 4) ≤ 36
-  pub room : length (groupsIn p 0 4) ≤ n
-  pub mate : (g : ℕ) → getD (p .shares) g false ≡ true → length (groupsIn p 0 4) ≤ 22
+  pub few : length (sourcesOf p) ≤ 36
+  pub room : length (sourcesOf p) ≤ n
+  pub mate : (g : ℕ) → getD (p .shares) g false ≡ true → length (sourcesOf p) ≤ 22
   pub near : at < 4294967296

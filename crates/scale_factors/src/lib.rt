@@ -1,23 +1,34 @@
 // A slot's scale factors.
-mod plan;
+pub mod plan;
 
 use bits::field;
-use plan::Plan;
+use derived::shape_of;
+use lent_bytes::put;
 use plan::group_bits;
 use plan::plan_of;
 use plan::width_of;
-use sizes::is_short;
+use standard::Plan;
+use standard::Setting;
+use standard::Shape;
 use standard::SlotRecord;
 ghost use mathlib.Core.Path.{_≡_};
 ghost use mathlib.Core.Bool.{true};
-ghost use Prim.Native.Nat.{_+_, _<_, _≤_};
-ghost use lib.ListN.{length, getD, replicate};
+ghost use mathlib.Core.List.{_++_};
+ghost use Prim.Native.Nat.{_+_, _-_, _<_, _≤_};
+ghost use lib.ListN.{length, getD, take, drop, replicate};
 ghost use Rattle.standard.specs.Bits.{bits};
-ghost use Rattle.standard.specs.Record.{isShort};
-ghost use Rattle.standard.specs.Factors.{planOf, planBits, longFactors, shortFactors, bandsOf};
+ghost use Rattle.standard.specs.Record.{shapeOf};
+ghost use Rattle.standard.specs.Factors.{planOf, sourcesOf, group, planBits, longCount, shortCount, shortFrom, longFactors, shortFactors, bandsOf};
 ghost use Rattle.standard.specs.FactorsLaws.{widthOf, factorBy};
 ghost use Rattle.scale_factors.specs.Flat.{flatOf};
-ghost use Rattle.scale_factors.specs.Groups.{factorsAt, sourceOf, groupIn, groupsIn, filled, Group, Fit};
+ghost use Rattle.scale_factors.specs.Groups.{factorsAt, sourceOf, filled, Group, Fit};
+
+// The factors of a slot: how many bits they take (part2_length), the long ones, and three windows of thirteen short bands one after the other.
+pub struct Factors {
+    pub bits: u32,
+    pub long: [u8; 22],
+    pub short: [u8; 39],
+}
 
 // One factor: granule 0's at every length, or the number that the next bits spell.
 fn read_factor(shares: bool, length: u16, old: [u8; 22], i: usize, s: &[u8], at: usize) -> u8
@@ -41,7 +52,7 @@ fn read_group(
     first: usize,
 ) -> usize
     requires { ⌜ Group p g first (length (now fs)) at ⌝ }
-    ensures { λ r. ⌜ (r ≡ at + planBits (groupIn p g)) × (now (fs .exit) ≡ filled (now (fs .entry)) first (groupIn p g) old (now (s .entry)) at) ⌝ }
+    ensures { λ r. ⌜ (r ≡ at + planBits (group p g)) × (now (fs .exit) ≡ filled (now (fs .entry)) first (group p g) old (now (s .entry)) at) ⌝ }
 {
     let end = first + p.counts[g] as usize;
     let shares = p.shares[g];
@@ -60,7 +71,7 @@ fn read_group(
 // Writes the factors of a plan.
 fn read_factors(p: Plan, old: [u8; 22], s: &[u8], at: usize, fs: &mut [u8])
     requires { ⌜ Fit p (length (now fs)) at ⌝ }
-    ensures { λ r. ⌜ now (fs .exit) ≡ filled (now (fs .entry)) 0 (groupsIn p 0 4) old (now (s .entry)) at ⌝ }
+    ensures { λ r. ⌜ now (fs .exit) ≡ filled (now (fs .entry)) 0 (sourcesOf p) old (now (s .entry)) at ⌝ }
 {
     let mut place = at;
     let mut done = 0;
@@ -70,36 +81,6 @@ fn read_factors(p: Plan, old: [u8; 22], s: &[u8], at: usize, fs: &mut [u8])
         done += p.counts[g] as usize;
         g += 1;
     }
-}
-
-// How many bits the factors of a slot take (part2_length).
-pub fn factor_bits(mpeg1: bool, intensity: bool, shares: [bool; 4], r: SlotRecord) -> u32
-    ensures { λ n. ⌜ n ≡ planBits (planOf mpeg1 intensity shares r) ⌝ }
-{
-    let plan = plan_of(mpeg1, intensity, shares, r);
-    group_bits(plan, 0) + group_bits(plan, 1) + group_bits(plan, 2) + group_bits(plan, 3)
-}
-
-// The long factors of a slot that starts at a bit place, `old` being those of its channel in granule 0.
-pub fn read_long_factors(
-    mpeg1: bool,
-    intensity: bool,
-    shares: [bool; 4],
-    r: SlotRecord,
-    old: [u8; 22],
-    s: &[u8],
-    at: u32,
-) -> [u8; 22]
-    ensures { λ fs. ⌜ fs ≡ longFactors (isShort (r .block)) (factorsAt mpeg1 intensity shares r old (now (s .entry)) at) ⌝ }
-{
-    let mut fs = [0u8; 22];
-    let block = r.block;
-    if is_short(block) {
-        return fs;
-    }
-    let p = plan_of(mpeg1, intensity, shares, r);
-    read_factors(p, old, s, at as usize, &mut fs);
-    fs
 }
 
 // Thirteen bands of three windows.
@@ -115,29 +96,8 @@ fn bands(fs: [u8; 39]) -> [[u8; 3]; 13]
     a
 }
 
-// The short factors of a slot that starts at a bit place.
-pub fn read_short_factors(
-    mpeg1: bool,
-    intensity: bool,
-    shares: [bool; 4],
-    r: SlotRecord,
-    s: &[u8],
-    at: u32,
-) -> [[u8; 3]; 13]
-    ensures { λ a. ⌜ a ≡ bandsOf 13 (shortFactors (isShort (r .block)) (factorsAt mpeg1 intensity shares r (replicate 22 0) (now (s .entry)) at)) ⌝ }
-{
-    let block = r.block;
-    if is_short(block) {
-        let p = plan_of(mpeg1, intensity, shares, r);
-        let mut fs = [0u8; 39];
-        read_factors(p, [0u8; 22], s, at as usize, &mut fs);
-        return bands(fs);
-    }
-    [[0u8; 3]; 13]
-}
-
 // The thirteen arrays one after the other.
-pub fn flat(a: [[u8; 3]; 13]) -> [u8; 39]
+fn flat(a: [[u8; 3]; 13]) -> [u8; 39]
     ensures { λ fs. ⌜ fs ≡ flatOf a ⌝ }
 {
     let mut fs = [0u8; 39];
@@ -147,4 +107,92 @@ pub fn flat(a: [[u8; 3]; 13]) -> [u8; 39]
         k += 1;
     }
     fs
+}
+
+// How many bits the factors of a plan take (part2_length).
+fn plan_bits(p: Plan) -> u32
+    requires { ⌜ planBits (sourcesOf p) ≤ 180 ⌝ }
+    ensures { λ n. ⌜ n ≡ planBits (sourcesOf p) ⌝ }
+{
+    group_bits(p, 0) + group_bits(p, 1) + group_bits(p, 2) + group_bits(p, 3)
+}
+
+// The factors of a plan in turn, and zeros behind them.
+fn read_plan(p: Plan, old: [u8; 22], s: &[u8], at: usize) -> [u8; 36]
+    requires { ⌜ Fit p 36 at ⌝ }
+    ensures { λ fs. ⌜ fs ≡ filled (replicate 36 0) 0 (sourcesOf p) old (now (s .entry)) at ⌝ }
+{
+    let mut fs = [0u8; 36];
+    read_factors(p, old, s, at, &mut fs);
+    fs
+}
+
+// How many of the factors are long.
+fn long_count(mpeg1: bool, shape: Shape) -> usize
+    ensures { λ n. ⌜ n ≡ longCount mpeg1 shape ⌝ }
+{
+    match shape {
+        Shape::AllLong => 21,
+        Shape::AllShort => 0,
+    }
+}
+
+// How many are short.
+fn short_count(shape: Shape) -> usize
+    ensures { λ n. ⌜ n ≡ shortCount shape ⌝ }
+{
+    match shape {
+        Shape::AllLong => 0,
+        Shape::AllShort => 36,
+    }
+}
+
+// The place of the first short one among the 39.
+fn short_from(shape: Shape) -> usize
+    ensures { λ n. ⌜ n ≡ shortFrom shape ⌝ }
+{
+    match shape {
+        Shape::AllLong => 0,
+        Shape::AllShort => 0,
+    }
+}
+
+// The first n factors at the first of 22 places.
+fn long_places(fs: [u8; 36], n: usize) -> [u8; 22]
+    requires { ⌜ n ≤ 21 ⌝ }
+    ensures { λ r. ⌜ r ≡ take n fs ++ replicate (22 - n) 0 ⌝ }
+{
+    let mut long = [0u8; 22];
+    put(&mut long, 0, &fs[0..n]);
+    long
+}
+
+// The factors from the n-th to the end at the places of 39 from `from` on, three to a band.
+fn short_places(fs: [u8; 36], n: usize, end: usize, from: usize) -> [[u8; 3]; 13]
+    requires { ⌜ (n ≤ end) × (end ≤ 36) × (from + (end - n) ≤ 36) ⌝ }
+    ensures { λ a. ⌜ a ≡ bandsOf 13 (replicate from 0 ++ take (end - n) (drop n fs) ++ replicate (39 - (from + (end - n))) 0) ⌝ }
+{
+    let mut short = [0u8; 39];
+    put(&mut short, from, &fs[n..end]);
+    bands(short)
+}
+
+// The factors of a slot that starts at a bit place, `old` being the long ones of its channel in granule 0.
+pub fn read_scale_factors(g: Setting, r: SlotRecord, old: [u8; 22], s: &[u8], at: u32) -> Factors
+    ensures { λ f. ⌜ (f .bits ≡ planBits (sourcesOf (planOf g r)))
+        × (f .long ≡ longFactors (g .mpeg1) (shapeOf r) (factorsAt g r old (now (s .entry)) at))
+        × (f .short ≡ shortFactors (g .mpeg1) (shapeOf r) (factorsAt g r old (now (s .entry)) at)) ⌝ }
+{
+    let plan = plan_of(g, r);
+    let fs = read_plan(plan, old, s, at as usize);
+    let block = r.block_type;
+    let shape = shape_of(block);
+    let n = long_count(g.mpeg1, shape);
+    let long = long_places(fs, n);
+    let short = flat(short_places(fs, n, n + short_count(shape), short_from(shape)));
+    Factors {
+        bits: plan_bits(plan),
+        long,
+        short,
+    }
 }

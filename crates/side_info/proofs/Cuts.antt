@@ -6,7 +6,7 @@ use native.Mathlib.Omega.{arith}
 use lib.Pow.{pow-pos, pow-mono}
 use Rattle.standard.specs.Bits.{bits, value, valueFrom, fieldAt}
 use Rattle.standard.specs.BitsLaws.{fieldAt-add, fieldAt-cut, fieldAt-lt}
-use Rattle.records.proofs.Widths.{mask}
+use Rattle.record_check.proofs.Widths.{mask}
 
 -- ---- k bytes, and one more
 pub bytes-none : (s : List ℕ) (i : ℕ) → 0 ≡ fieldAt s (8 * i) (8 * 0)

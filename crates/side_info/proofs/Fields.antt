@@ -15,7 +15,7 @@ use Rattle.standard.specs.BitsLaws.{field-bits, flag-bits, fieldAt-cut}
 use Rattle.standard.specs.Record.{gainOf, compressWidth, recordWidth, scaleAt, count1At, preflagOf, blockOf, longOf, switchedOf, recordIn, recordOf}
 use Rattle.standard.specs.declared.SlotRecord.{SlotRecord}
 use Rattle.standard.specs.declared.Refusal.the-variants.{TooManyPairs, ForbiddenBlock, MixedBlock}
-use Rattle.records.proofs.Widths.{width}
+use Rattle.record_check.proofs.Widths.{width}
 use Rattle.side_info.specs.declared.record.Common.{Common}
 use Rattle.side_info.specs.Parts.{commonOf, recordBits, PartsAt}
 
@@ -50,16 +50,16 @@ count1-there : (mpeg1 : Bool) (s : List ℕ) (at : ℕ) → bitAt s (at + record
 count1-there true s at = let p : at + 59 - 1 ≡ at + 58 = omega arith in ap (bitAt s) p ∙ sym (flag-bits s at 59 58 (omega arith))
 count1-there false s at = let p : at + 63 - 1 ≡ at + 62 = omega arith in ap (bitAt s) p ∙ sym (flag-bits s at 63 62 (omega arith))
 
-pub common-read : (mpeg1 : Bool) (s : List ℕ) (at : ℕ) {v x n : ℕ} {p q r : Bool} → v ≡ fieldAt s at 29 → x ≡ field (recordBits mpeg1 s at) 29 (compressWidth mpeg1) → n ≡ recordWidth mpeg1 → p ≡ preflagOf mpeg1 (recordBits mpeg1 s at) → q ≡ bitAt s (at + n - 2) → r ≡ bitAt s (at + n - 1) → record { length = v / 2 ^ 17 % 2 ^ 12; pairs = v / 2 ^ 8 % 2 ^ 9; gain = v % 2 ^ 8; compress = x; preflag = p; scale = q; count1 = r } ≡ commonOf mpeg1 (recordBits mpeg1 s at)
+pub common-read : (mpeg1 : Bool) (s : List ℕ) (at : ℕ) {v x n : ℕ} {p q r : Bool} → v ≡ fieldAt s at 29 → x ≡ field (recordBits mpeg1 s at) 29 (compressWidth mpeg1) → n ≡ recordWidth mpeg1 → p ≡ preflagOf mpeg1 (recordBits mpeg1 s at) → q ≡ bitAt s (at + n - 2) → r ≡ bitAt s (at + n - 1) → record { «part2_3_length» = v / 2 ^ 17 % 2 ^ 12; «big_values» = v / 2 ^ 8 % 2 ^ 9; «global_gain» = v % 2 ^ 8; «scalefac_compress» = x; preflag = p; «scalefac_scale» = q; «count1table_select» = r } ≡ commonOf mpeg1 (recordBits mpeg1 s at)
 unfolding commonOf
 common-read mpeg1 s at {v} {x} {n} {p} {q} {r} e f g h i k = λ j. record {
-  length = cut mpeg1 s at at 0 12 17 0 e refl (omega (arith, width mpeg1)) j;
-  pairs = cut mpeg1 s at at 12 9 8 12 e refl (omega (arith, width mpeg1)) j;
-  gain = (ap (λ (y : ℕ). y % 2 ^ 8) (sym (div-one v)) ∙ cut mpeg1 s at at 21 8 0 21 e refl (omega (arith, width mpeg1))) j;
-  compress = f j;
+  «part2_3_length» = cut mpeg1 s at at 0 12 17 0 e refl (omega (arith, width mpeg1)) j;
+  «big_values» = cut mpeg1 s at at 12 9 8 12 e refl (omega (arith, width mpeg1)) j;
+  «global_gain» = (ap (λ (y : ℕ). y % 2 ^ 8) (sym (div-one v)) ∙ cut mpeg1 s at at 21 8 0 21 e refl (omega (arith, width mpeg1))) j;
+  «scalefac_compress» = f j;
   preflag = h j;
-  scale = (i ∙ ap (λ (y : ℕ). bitAt s (at + y - 2)) g ∙ scale-there mpeg1 s at) j;
-  count1 = (k ∙ ap (λ (y : ℕ). bitAt s (at + y - 1)) g ∙ count1-there mpeg1 s at) j;
+  «scalefac_scale» = (i ∙ ap (λ (y : ℕ). bitAt s (at + y - 2)) g ∙ scale-there mpeg1 s at) j;
+  «count1table_select» = (k ∙ ap (λ (y : ℕ). bitAt s (at + y - 1)) g ∙ count1-there mpeg1 s at) j;
 }
 
 -- ---- the window
@@ -80,11 +80,11 @@ module _ {mpeg1 : Bool} {s : List ℕ} {at : ℕ} {k : Common} {w : ℕ} (e : Pa
   window-last j n p = ap (λ (v : ℕ). v % 2 ^ n) (sym (div-one w)) ∙ window-cut j n 0 (omega arith)
 
   -- ---- the tests
-  pairs-are : k .pairs ≡ field b 12 9
+  pairs-are : k .«big_values» ≡ field b 12 9
   unfolding commonOf
-  pairs-are = ap (λ (x : Common). x .pairs) (e .common)
+  pairs-are = ap (λ (x : Common). x .«big_values») (e .common)
 
-  few : k .pairs ≤ 288 → ltb 288 (field b 12 9) ≡ false
+  few : k .«big_values» ≤ 288 → ltb 288 (field b 12 9) ≡ false
   few h = le-ltb 288 (field b 12 9) (rw pairs-are at h)
 
   set : (j m : ℕ) → j + 1 + m ≡ 23 → w / 2 ^ m % 2 ≡ 1 → flag b (29 + j + c) ≡ true
@@ -98,11 +98,11 @@ module _ {mpeg1 : Bool} {s : List ℕ} {at : ℕ} {k : Common} {w : ℕ} (e : Pa
   other : (w / 2 ^ 20 % 4 ≡ 0 → ⊥) → eqb (field b (30 + c) 2) 0 ≡ false
   other h = ne-eqb (field b (30 + c) 2) 0 (λ q. h (window-cut 1 2 20 refl ∙ q))
 
-  pub says-many : 288 < k .pairs → recordOf mpeg1 (recordBits mpeg1 s at) ≡ refused TooManyPairs
+  pub says-many : 288 < k .«big_values» → recordOf mpeg1 (recordBits mpeg1 s at) ≡ refused TooManyPairs
   unfolding recordOf recordIn
   says-many h = picked _ (lt-ltb 288 (field b 12 9) (rw pairs-are at h))
 
-  module _ (h : k .pairs ≤ 288) where
+  module _ (h : k .«big_values» ≤ 288) where
     pub says-long : (w / 2 ^ 22 % 2 ≡ 1 → ⊥) → recordOf mpeg1 (recordBits mpeg1 s at) ≡ told (longOf mpeg1 (compressWidth mpeg1) (recordBits mpeg1 s at))
     unfolding recordOf recordIn
     says-long i = passed _ (few h) ∙ picked _ (ap not (unset 0 22 refl i))

@@ -18,7 +18,7 @@ use Rattle.standard.specs.declared.Verdict.{Verdict}
 use Rattle.standard.specs.declared.Verdict.the-variants.{Accepted, Refused}
 use Rattle.side_info.specs.Parts.{recordBits, Gives, filled}
 use Rattle.side_info.proofs.Given.{gives-none, gives-told, given-none, given-told}
-use Rattle.records.proofs.Widths.{width}
+use Rattle.record_check.proofs.Widths.{width}
 
 -- one more is stored in an array of n places
 stored : {A : Type 0} (n i : ℕ) (d x : A) (done : List A) {xs : List A} → length done ≡ i → i < n → xs ≡ done ++ replicate (n - i) d → set xs i x ≡ (done ++ x ∷ []) ++ replicate (n - (i + 1)) d

@@ -20,8 +20,8 @@ use Rattle.standard.specs.declared.Refusal.{Refusal}
 use Rattle.standard.specs.declared.Refusal.the-variants.{AbsentBytes, MadeUpRecord}
 use Rattle.standard.specs.declared.Verdict.{Verdict}
 use Rattle.standard.specs.declared.Verdict.the-variants.{Accepted, Refused}
-use Rattle.records.specs.declared.layout.Layout.{Layout}
-use Rattle.records.specs.Layouts.{layoutOf}
+use Rattle.record_check.specs.declared.layout.Layout.{Layout}
+use Rattle.record_check.specs.Layouts.{layoutOf}
 use Rattle.side_info.specs.Parts.{Gives, filled}
 use Rattle.side_info.proofs.Given.{given-none, given-told}
 
@@ -40,10 +40,10 @@ module _ (mpeg1 two : Bool) (b : List Bool) where
   side-none (refused k) e = ap refused (one-reason e)
   side-none (told rs) e = apart (sym e)
 
-  side-all : {slots : List SlotRecord} (t : Told (List SlotRecord)) → filled (slotCount mpeg1 two) t ≡ told slots → thenSide mpeg1 two b t ≡ told (record { begin = field b 0 (beginWidth mpeg1); shares = take (shareCount mpeg1 two) (drop (sharesAt mpeg1 two) b) ++ replicate (8 - shareCount mpeg1 two) false; slots = slots })
+  side-all : {slots : List SlotRecord} (t : Told (List SlotRecord)) → filled (slotCount mpeg1 two) t ≡ told slots → thenSide mpeg1 two b t ≡ told (record { «main_data_begin» = field b 0 (beginWidth mpeg1); scfsi = take (shareCount mpeg1 two) (drop (sharesAt mpeg1 two) b) ++ replicate (8 - shareCount mpeg1 two) false; slots = slots })
   unfolding thenSide
   side-all {slots} (refused k) e = apart e
-  side-all {slots} (told rs) e = λ j. told (record { begin = field b 0 (beginWidth mpeg1); shares = take (shareCount mpeg1 two) (drop (sharesAt mpeg1 two) b) ++ replicate (8 - shareCount mpeg1 two) false; slots = told-is e j })
+  side-all {slots} (told rs) e = λ j. told (record { «main_data_begin» = field b 0 (beginWidth mpeg1); scfsi = take (shareCount mpeg1 two) (drop (sharesAt mpeg1 two) b) ++ replicate (8 - shareCount mpeg1 two) false; slots = told-is e j })
 
 -- ---- where the parts stand
 module _ (mpeg1 two : Bool) (s : List ℕ) (at : ℕ) where
@@ -81,12 +81,12 @@ module _ (mpeg1 two : Bool) (s : List ℕ) (at : ℕ) where
     unfolding sideIn
     side-refused e h f = side-none mpeg1 two b (recordsOf mpeg1 n (drop (p + m) b)) (given-none (given-there e h) f)
 
-    pub side-told : {l : Layout} → l ≡ layoutOf mpeg1 two → Gives v slots (filled (l .slots) (recordsOf mpeg1 (l .slots) (bits s (at + l .prefix + l .shares) (l .slots * recordWidth mpeg1)))) → v ≡ Accepted → sideIn mpeg1 two (bits s at (8 * sideBytes mpeg1 two)) ≡ told (record { begin = fieldAt s at (l .begin); shares = bits s (at + l .prefix) (l .shares) ++ replicate (8 - l .shares) false; slots = slots })
+    pub side-told : {l : Layout} → l ≡ layoutOf mpeg1 two → Gives v slots (filled (l .slots) (recordsOf mpeg1 (l .slots) (bits s (at + l .prefix + l .shares) (l .slots * recordWidth mpeg1)))) → v ≡ Accepted → sideIn mpeg1 two (bits s at (8 * sideBytes mpeg1 two)) ≡ told (record { «main_data_begin» = fieldAt s at (l .«main_data_begin»); scfsi = bits s (at + l .prefix) (l .shares) ++ replicate (8 - l .shares) false; slots = slots })
     unfolding sideIn
     side-told {l} e h f =
         side-all mpeg1 two b (recordsOf mpeg1 n (drop (p + m) b)) (given-told (given-there e h) f)
-        ∙ (λ j. told (record { begin = begin-there j; shares = shares-there j ++ replicate (8 - m) false; slots = slots }))
-        ∙ ap (λ (k : Layout). told (record { begin = fieldAt s at (k .begin); shares = bits s (at + k .prefix) (k .shares) ++ replicate (8 - k .shares) false; slots = slots })) (sym e)
+        ∙ (λ j. told (record { «main_data_begin» = begin-there j; scfsi = shares-there j ++ replicate (8 - m) false; slots = slots }))
+        ∙ ap (λ (k : Layout). told (record { «main_data_begin» = fieldAt s at (k .«main_data_begin»); scfsi = bits s (at + k .prefix) (k .shares) ++ replicate (8 - k .shares) false; slots = slots })) (sym e)
 
 -- ---- from the frame's bytes
 module _ (mpeg1 two : Bool) (from : ℕ) (s : List ℕ) {l : Layout} (e : l ≡ layoutOf mpeg1 two) where

@@ -14,13 +14,13 @@ use Rattle.side_info.specs.declared.record.Common.{Common}
 unfoldable pub commonOf : Bool → List Bool → Common
 commonOf mpeg1 b =
     record {
-      length = field b 0 12;
-      pairs = field b 12 9;
-      gain = field b 21 8;
-      compress = field b 29 (compressWidth mpeg1);
+      «part2_3_length» = field b 0 12;
+      «big_values» = field b 12 9;
+      «global_gain» = field b 21 8;
+      «scalefac_compress» = field b 29 (compressWidth mpeg1);
       preflag = preflagOf mpeg1 b;
-      scale = flag b (scaleAt mpeg1);
-      count1 = flag b (count1At mpeg1);
+      «scalefac_scale» = flag b (scaleAt mpeg1);
+      «count1table_select» = flag b (count1At mpeg1);
     }
 
 -- the bits of a record, from a place of the bytes s on

@@ -1,10 +1,10 @@
 // A frame's side information, read from its bytes.
 use crate::side::no_side;
 use crate::side::read_after;
+use derived::header_size;
+use derived::is_mpeg1;
+use derived::is_two;
 use header::is_header;
-use sizes::header_size;
-use sizes::is_mpeg1;
-use sizes::is_two;
 use standard::FrameHeader;
 use standard::Refusal;
 use standard::SideInfoAnswer;

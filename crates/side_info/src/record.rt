@@ -2,9 +2,10 @@
 // Only scalefac_compress and what comes after the window differ between the versions.
 use crate::words::word;
 use bits::bit;
-use records::given::compress_width;
-use records::given::first_region;
-use records::given::second_region;
+use derived::shape_of;
+use record_check::given::compress_width;
+use record_check::given::first_region;
+use record_check::given::second_region;
 use standard::BlockType;
 use standard::Refusal;
 use standard::SlotRecord;
@@ -20,13 +21,13 @@ ghost use Rattle.side_info.specs.Parts.{commonOf, recordBits, PartsAt, G
 
 // What every record has, whatever its window.
 pub(crate) struct Common {
-    pub length: u16,
-    pub pairs: u16,
-    pub gain: u8,
-    pub compress: u16,
+    pub part2_3_length: u16,
+    pub big_values: u16,
+    pub global_gain: u8,
+    pub scalefac_compress: u16,
     pub preflag: bool,
-    pub scale: bool,
-    pub count1: bool,
+    pub scalefac_scale: bool,
+    pub count1table_select: bool,
 }
 
 // A record; of a refused one, what stands in the slot says nothing.
@@ -69,18 +70,18 @@ pub(crate) fn long_record(k: Common, w: u64) -> SlotRecord
         ((w >> 7) % 32) as u8,
     ];
     SlotRecord {
-        length: k.length,
-        pairs: k.pairs,
-        gain: k.gain,
-        compress: k.compress,
-        block: BlockType::Long,
-        gains,
-        tables,
-        region0: ((w >> 3) % 16) as u8,
-        region1: (w % 8) as u8,
+        part2_3_length: k.part2_3_length,
+        big_values: k.big_values,
+        global_gain: k.global_gain,
+        scalefac_compress: k.scalefac_compress,
+        block_type: BlockType::Long,
+        subblock_gain: gains,
+        table_select: tables,
+        region0_count: ((w >> 3) % 16) as u8,
+        region1_count: (w % 8) as u8,
         preflag: k.preflag,
-        scale: k.scale,
-        count1: k.count1,
+        scalefac_scale: k.scalefac_scale,
+        count1table_select: k.count1table_select,
     }
 }
 
@@ -95,21 +96,22 @@ pub(crate) fn switched_record(k: Common, w: u64, block: BlockType) -> SlotRecord
         (w % 8) as u8 as f32,
     ];
     let tables = [((w >> 14) % 32) as u8, ((w >> 9) % 32) as u8, 0];
-    let region0 = first_region(block);
-    let region1 = second_region(block);
+    let shape = shape_of(block);
+    let region0 = first_region(shape);
+    let region1 = second_region(shape);
     SlotRecord {
-        length: k.length,
-        pairs: k.pairs,
-        gain: k.gain,
-        compress: k.compress,
-        block,
-        gains,
-        tables,
-        region0,
-        region1,
+        part2_3_length: k.part2_3_length,
+        big_values: k.big_values,
+        global_gain: k.global_gain,
+        scalefac_compress: k.scalefac_compress,
+        block_type: block,
+        subblock_gain: gains,
+        table_select: tables,
+        region0_count: region0,
+        region1_count: region1,
         preflag: k.preflag,
-        scale: k.scale,
-        count1: k.count1,
+        scalefac_scale: k.scalefac_scale,
+        count1table_select: k.count1table_select,
     }
 }
 
@@ -120,24 +122,24 @@ pub(crate) fn absent_record() -> SlotRecord
     let gains = [0.0f32, 0.0f32, 0.0f32];
     let tables = [0u8, 0u8, 0u8];
     SlotRecord {
-        length: 0,
-        pairs: 0,
-        gain: 0,
-        compress: 0,
-        block: BlockType::Long,
-        gains,
-        tables,
-        region0: 0,
-        region1: 0,
+        part2_3_length: 0,
+        big_values: 0,
+        global_gain: 0,
+        scalefac_compress: 0,
+        block_type: BlockType::Long,
+        subblock_gain: gains,
+        table_select: tables,
+        region0_count: 0,
+        region1_count: 0,
         preflag: false,
-        scale: false,
-        count1: false,
+        scalefac_scale: false,
+        count1table_select: false,
     }
 }
 
 // The first fault of a record, if it has one.
 pub(crate) fn verdict_of(pairs: u16, w: u64) -> Verdict
-    ensures { λ r. ⌜ ((mpeg1 : Bool) (s : List ℕ) (at : ℕ) (k : Common) → PartsAt mpeg1 s at k w → pairs ≡ k .pairs
+    ensures { λ r. ⌜ ((mpeg1 : Bool) (s : List ℕ) (at : ℕ) (k : Common) → PartsAt mpeg1 s at k w → pairs ≡ k .«big_values»
         → r ≡ verdictOf (recordOf mpeg1 (recordBits mpeg1 s at))) ⌝ }
 {
     if 288 < pairs {
@@ -196,13 +198,13 @@ pub(crate) fn read_common(s: &[u8], at: usize, mpeg1: bool) -> Common
     let scale = bit(s, end - 2);
     let count1 = bit(s, end - 1);
     Common {
-        length: ((head >> 17) % 4096) as u16,
-        pairs: ((head >> 8) % 512) as u16,
-        gain: (head % 256) as u8,
-        compress,
+        part2_3_length: ((head >> 17) % 4096) as u16,
+        big_values: ((head >> 8) % 512) as u16,
+        global_gain: (head % 256) as u8,
+        scalefac_compress: compress,
         preflag,
-        scale,
-        count1,
+        scalefac_scale: scale,
+        count1table_select: count1,
     }
 }
 
@@ -214,7 +216,7 @@ pub(crate) fn read_record(s: &[u8], at: usize, mpeg1: bool) -> RecordAnswer
     let k = read_common(s, at, mpeg1);
     let c = compress_width(mpeg1);
     let w = word(s, at + 29 + c, 23);
-    let verdict = verdict_of(k.pairs, w);
+    let verdict = verdict_of(k.big_values, w);
     let slot = slot_of(k, w);
     RecordAnswer { verdict, slot }
 }

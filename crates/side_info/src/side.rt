@@ -3,7 +3,7 @@ use crate::record::absent_record;
 use crate::slot_records::read_records;
 use crate::words::word;
 use bits::bit;
-use records::layout::layout_of;
+use record_check::layout::layout_of;
 use standard::Refusal;
 use standard::SideInfo;
 use standard::SideInfoAnswer;
@@ -27,8 +27,8 @@ pub fn no_side(why: Refusal) -> SideInfoAnswer
     let slots = [a; 4];
     let shares = [false; 8];
     let info = SideInfo {
-        begin: 0,
-        shares,
+        main_data_begin: 0,
+        scfsi: shares,
         slots,
     };
     SideInfoAnswer {
@@ -63,12 +63,12 @@ pub(crate) fn read_bits(s: &[u8], at: usize, mpeg1: bool, two: bool) -> SideInfo
     match v {
         Verdict::Refused(why) => no_side(why),
         Verdict::Accepted => {
-            let begin = word(s, at, l.begin) as u16;
+            let begin = word(s, at, l.main_data_begin) as u16;
             let shares = read_shares(s, at + l.prefix, l.shares);
             let slots = x.slots;
             let info = SideInfo {
-                begin,
-                shares,
+                main_data_begin: begin,
+                scfsi: shares,
                 slots,
             };
             SideInfoAnswer { verdict: v, info }

@@ -1,13 +1,15 @@
 // Reads frames from standard input, from an empty reservoir, and writes what is in them, until the input ends or a frame is refused.
-use card::Card;
-use card::Filled;
-use card::Input;
-use card::blank;
-use card::fill;
-use card::taken;
-use card::unread;
+use derived::is_two;
 use frame::process_frame;
+use input::Filled;
+use input::Held;
+use input::Input;
+use input::blank;
+use input::fill;
+use input::taken;
+use input::unread;
 use io::write_all;
+use lent_bytes::put;
 use libc::STDERR_FILENO;
 use libc::STDIN_FILENO;
 use libc::STDOUT_FILENO;
@@ -16,12 +18,10 @@ use lines::put_frame;
 use lines::put_refused;
 use lines::put_slots;
 use reservoir::emptied;
-use sizes::is_two;
 use standard::FrameAnswer;
 use standard::Refusal;
 use standard::Reservoir;
 use standard::Verdict;
-use window::put;
 
 // No frame is longer, so with so many bytes unread the next one is whole.
 const LONGEST: usize = 2048;
@@ -47,30 +47,30 @@ struct Place {
 
 // What goes on from frame to frame beside the lent memory.
 struct Run {
-    card: Card,
+    held: Held,
     input: Input,
     reservoir: Reservoir,
     place: Place,
 }
 
-// Fills the window where the next frame might not be whole in it.
-fn refill(bytes: &mut [u8], card: Card, input: Input) -> Filled {
+// Reads on where the next frame might not be whole in what is held.
+fn refill(bytes: &mut [u8], held: Held, input: Input) -> Filled {
     match input {
         Input::Open => {
-            if unread(bytes, card).len() < LONGEST {
-                return fill(STDIN_FILENO, bytes, card);
+            if unread(bytes, held).len() < LONGEST {
+                return fill(STDIN_FILENO, bytes, held);
             }
             Filled {
-                card,
+                held,
                 input: Input::Open,
             }
         }
         Input::Ended => Filled {
-            card,
+            held,
             input: Input::Ended,
         },
         Input::Failed => Filled {
-            card,
+            held,
             input: Input::Failed,
         },
     }
@@ -78,7 +78,7 @@ fn refill(bytes: &mut [u8], card: Card, input: Input) -> Filled {
 
 // Writes the text up to a place, and answers whether it could.
 fn written(out: &[u8], at: usize) -> bool {
-    write_all(STDOUT_FILENO, unread(out, Card { from: 0, end: at }))
+    write_all(STDOUT_FILENO, unread(out, Held { from: 0, end: at }))
 }
 
 // Nothing is left unread: the end of the card, or as far as it could be read.
@@ -172,26 +172,26 @@ fn told(out: &mut [u8], at: usize, n: u64, a: FrameAnswer, input: Input, numbers
 
 // The n-th frame.
 fn step(
-    window: &mut [u8],
+    piece: &mut [u8],
     bytes: &mut [u8],
     numbers: &mut [i32],
     out: &mut [u8],
     run: Run,
     n: u64,
 ) -> Run {
-    let card = run.card;
+    let held = run.held;
     let input = run.input;
     let reservoir = run.reservoir;
     let place = run.place;
     let at = place.at;
-    let f = refill(&mut *window, card, input);
-    let filled = f.card;
+    let f = refill(&mut *piece, held, input);
+    let filled = f.held;
     let source = f.input;
-    let frame = unread(window, filled);
+    let frame = unread(piece, filled);
     if frame.len() == 0 {
         let end = at_end(at, source);
         return Run {
-            card: filled,
+            held: filled,
             input: source,
             reservoir,
             place: end,
@@ -201,7 +201,7 @@ fn step(
     let kept = a.reservoir;
     let next = told(out, at, n, a, source, numbers);
     Run {
-        card: taken(filled, a.length),
+        held: taken(filled, a.length),
         input: source,
         reservoir: kept,
         place: next,
@@ -232,10 +232,10 @@ fn finish(out: &mut [u8], place: Place, n: u64) {
     }
 }
 
-fn walk(window: &mut [u8], bytes: &mut [u8], numbers: &mut [i32], out: &mut [u8]) {
+fn walk(piece: &mut [u8], bytes: &mut [u8], numbers: &mut [i32], out: &mut [u8]) {
     let at = put(&mut *out, 0, b"front end\n");
     let mut run = Run {
-        card: blank(),
+        held: blank(),
         input: Input::Open,
         reservoir: emptied(),
         place: Place {
@@ -246,7 +246,7 @@ fn walk(window: &mut [u8], bytes: &mut [u8], numbers: &mut [i32], out: &mut [u8]
     let mut n = 0u64;
     while n < MOST {
         run = step(
-            &mut *window,
+            &mut *piece,
             &mut *bytes,
             &mut *numbers,
             &mut *out,
@@ -265,9 +265,9 @@ fn walk(window: &mut [u8], bytes: &mut [u8], numbers: &mut [i32], out: &mut [u8]
 }
 
 fn main() {
-    let mut window = io::large_buffer();
+    let mut piece = io::large_buffer();
     let mut bytes = io::buffer();
     let mut numbers = [0i32; 2304];
     let mut out = io::large_buffer();
-    walk(&mut window, &mut bytes, &mut numbers, &mut out);
+    walk(&mut piece, &mut bytes, &mut numbers, &mut out);
 }

@@ -15,8 +15,8 @@ bits s at zero = []
 bits s at (suc n) = bitAt s at ∷ bits s (suc at) n
 
 -- the bits from one place up to another: what a reader that stands at a place of a slot has left
-unfoldable pub window : List ℕ → ℕ → ℕ → List Bool
-window s at end = bits s at (end - at)
+unfoldable pub between : List ℕ → ℕ → ℕ → List Bool
+between s at end = bits s at (end - at)
 
 abbrev pub one : Bool → ℕ
 one true = 1

@@ -11,7 +11,7 @@ use lib.Dec.{eqb}
 use lib.ListN.{length, getD, take, drop, length-take, length-drop, take-append-drop, List·getD-append, List·getD-eq-default}
 use lib.Pow.{pow-pos}
 use lib.Seq.{getD-append-add}
-use Rattle.standard.specs.Bits.{bitAt, bits, window, one, valueFrom, value, field, flag, fieldAt}
+use Rattle.standard.specs.Bits.{bitAt, bits, between, one, valueFrom, value, field, flag, fieldAt}
 
 -- ---- bits by place
 pub bitAt-past : (s : List ℕ) (i : ℕ) → length s ≤ i / 8 → bitAt s i ≡ false
@@ -70,30 +70,30 @@ take-bits (suc n) s at zero h = absurd (omega arith)
 take-bits (suc n) s at (suc w) h = ap (λ (l : List Bool). bitAt s at ∷ l) (take-bits n s (suc at) w (omega arith))
 
 -- ---- windows
-pub window-nil : (s : List ℕ) (at e : ℕ) → e ≤ at → window s at e ≡ []
-unfolding bits window
-window-nil s at e h = let p : e - at ≡ 0 = omega arith in ap (bits s at) p
+pub between-nil : (s : List ℕ) (at e : ℕ) → e ≤ at → between s at e ≡ []
+unfolding bits between
+between-nil s at e h = let p : e - at ≡ 0 = omega arith in ap (bits s at) p
 
 -- one bit is read, and the rest stays
-pub window-cons : (s : List ℕ) (at e : ℕ) → at < e → window s at e ≡ bitAt s at ∷ window s (at + 1) e
-unfolding bits window
-window-cons s at e h =
+pub between-cons : (s : List ℕ) (at e : ℕ) → at < e → between s at e ≡ bitAt s at ∷ between s (at + 1) e
+unfolding bits between
+between-cons s at e h =
     let p : e - at ≡ suc (e - (at + 1)) = omega arith in
     ap (bits s at) p ∙ ap (λ (i : ℕ). bitAt s at ∷ bits s i (e - (at + 1))) (sym (add-one at))
 
 -- k bits are read, whatever k is
-pub window-drop : (k : ℕ) (s : List ℕ) (at e : ℕ) → drop k (window s at e) ≡ window s (at + k) e
-unfolding window
-window-drop k s at e = let p : (e - at) - k ≡ e - (at + k) = omega arith in drop-bits k s at (e - at) ∙ ap (bits s (at + k)) p
+pub between-drop : (k : ℕ) (s : List ℕ) (at e : ℕ) → drop k (between s at e) ≡ between s (at + k) e
+unfolding between
+between-drop k s at e = let p : (e - at) - k ≡ e - (at + k) = omega arith in drop-bits k s at (e - at) ∙ ap (bits s (at + k)) p
 
-pub window-length : (s : List ℕ) (at e : ℕ) → length (window s at e) ≡ e - at
-unfolding window
-window-length s at e = length-bits s at (e - at)
+pub between-length : (s : List ℕ) (at e : ℕ) → length (between s at e) ≡ e - at
+unfolding between
+between-length s at e = length-bits s at (e - at)
 
 -- a slot of n bits, as its reader has it
-pub window-bits : (s : List ℕ) (at n : ℕ) → window s at (at + n) ≡ bits s at n
-unfolding window
-window-bits s at n = let p : (at + n) - at ≡ n = omega arith in ap (bits s at) p
+pub between-bits : (s : List ℕ) (at n : ℕ) → between s at (at + n) ≡ bits s at n
+unfolding between
+between-bits s at n = let p : (at + n) - at ≡ n = omega arith in ap (bits s at) p
 
 -- ---- the number that bits spell
 pub one-le : (x : Bool) → one x ≤ 1

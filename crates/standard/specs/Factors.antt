@@ -2,43 +2,53 @@
 -- where it comes from; one rule reads any plan.
 use mathlib.Core.Bool.{Bool, true, false}
 use mathlib.Core.List.{List, [], _∷_, _++_}
-use Prim.Native.Nat.{ℕ, zero, suc, _+_, _%_}
+use Prim.Native.Nat.{ℕ, zero, suc, _+_, _-_, _%_}
 use lib.ListN.{length, getD, take, drop, replicate}
 use Rattle.standard.specs.Told.{pick}
 use Rattle.standard.specs.Bits.{value}
 use Rattle.standard.specs.Lengths.{slen1, slen2, lowLengths, lowCounts}
-use Rattle.standard.specs.Record.{isShort}
+use Rattle.standard.specs.Record.{shapeOf}
 use Rattle.standard.specs.declared.SlotRecord.{SlotRecord}
+use Rattle.standard.specs.declared.Setting.{Setting}
+use Rattle.standard.specs.declared.Plan.{Plan}
+use Rattle.standard.specs.declared.Shape.{Shape}
+use Rattle.standard.specs.declared.Shape.the-variants.{AllLong, AllShort}
 
 -- a factor is granule 0's (scfsi), or has so many bits of the slot
 pub data Source : Type 0 where
   shared : Source
   coded : ℕ → Source
 
--- MPEG-1, long: scfsi_band 0 to 3 are the factors from 0, 6, 11 and 16 on
-unfoldable pub longPlan : ℕ → List Bool → List Source
-longPlan c shares =
-    replicate 6 (pick (getD shares 0 false) shared (coded (slen1 c)))
-    ++ replicate 5 (pick (getD shares 1 false) shared (coded (slen1 c)))
-    ++ replicate 5 (pick (getD shares 2 false) shared (coded (slen2 c)))
-    ++ replicate 5 (pick (getD shares 3 false) shared (coded (slen2 c)))
+-- ---- the plan of a slot: four groups in turn
+abbrev planned : List ℕ → List ℕ → List Bool → Plan
+planned ns ws xs = record { counts = ns; lengths = ws; shares = xs }
 
--- MPEG-1, short: three windows of bands 0 to 5, then of bands 6 to 11
-unfoldable pub shortPlan : ℕ → List Source
-shortPlan c = replicate 18 (coded (slen1 c)) ++ replicate 18 (coded (slen2 c))
+-- MPEG-1: scfsi_band 0 to 3 are the long factors from 0, 6, 11 and 16 on; short bands 0 (or 3) to 5 have the first length, 6 to 11 the second.
+-- `intensity` says whether this is the second channel under intensity stereo, of MPEG-2, where scalefac_compress has 9 bits and nothing is shared
+unfoldable pub planBy : Bool → Bool → List Bool → Shape → ℕ → Plan
+planBy true intensity shares AllLong c = planned (6 ∷ 5 ∷ 5 ∷ 5 ∷ []) (slen1 c ∷ slen1 c ∷ slen2 c ∷ slen2 c ∷ []) shares
+planBy true intensity shares AllShort c = planned (18 ∷ 18 ∷ 0 ∷ 0 ∷ []) (slen1 c ∷ slen2 c ∷ 0 ∷ 0 ∷ []) (replicate 4 false)
+planBy false intensity shares k c = planned (lowCounts intensity k (c % 512)) (lowLengths intensity (c % 512)) (replicate 4 false)
 
--- MPEG-2: so many factors of each length
-unfoldable pub lowPlan : List ℕ → List ℕ → List Source
-lowPlan [] ws = []
-lowPlan (n ∷ ns) [] = []
-lowPlan (n ∷ ns) (w ∷ ws) = replicate n (coded w) ++ lowPlan ns ws
+unfoldable pub planOf : Setting → SlotRecord → Plan
+planOf g r = planBy (g .mpeg1) (g .intensity) (g .shares) (shapeOf r) (r .«scalefac_compress»)
 
--- `intensity` says whether this is the second channel under intensity stereo, of MPEG-2, where scalefac_compress has 9 bits; `shares` has
--- the sharing bits in force
-unfoldable pub planOf : Bool → Bool → List Bool → SlotRecord → List Source
-planOf true intensity shares r = pick (isShort (r .block)) (shortPlan (r .compress)) (longPlan (r .compress) shares)
-planOf false intensity shares r =
-    lowPlan (lowCounts intensity (isShort (r .block)) (r .compress % 512)) (lowLengths intensity (r .compress % 512))
+-- only long bands share with granule 0 (scfsi)
+abbrev pub mayShare : Shape → Bool
+mayShare AllLong = true
+mayShare AllShort = false
+
+-- where each factor comes from: so many from one source for each group
+unfoldable pub group : Plan → ℕ → List Source
+group p g = replicate (getD (p .counts) g 0) (pick (getD (p .shares) g false) shared (coded (getD (p .lengths) g 0)))
+
+-- k groups from the g-th on
+unfoldable pub groupsFrom : Plan → ℕ → ℕ → List Source
+groupsFrom p g zero = []
+groupsFrom p g (suc k) = group p g ++ groupsFrom p (suc g) k
+
+abbrev pub sourcesOf : Plan → List Source
+sourcesOf p = groupsFrom p 0 4
 
 -- the bits of a plan (part2_length)
 unfoldable pub planBits : List Source → ℕ
@@ -52,14 +62,26 @@ factorsFrom [] old b = []
 factorsFrom (shared ∷ ps) old b = getD old 0 0 ∷ factorsFrom ps (drop 1 old) b
 factorsFrom (coded w ∷ ps) old b = value (take w b) ∷ factorsFrom ps (drop 1 old) (drop w b)
 
--- 22 long factors and 39 short ones, three to a band; what isn't read is 0
-unfoldable pub longFactors : Bool → List ℕ → List ℕ
-longFactors true fs = replicate 22 0
-longFactors false fs = fs ++ 0 ∷ []
+-- ---- 22 long factors and 39 short ones, three to a band; what isn't read is 0
+-- how many are long: they are read first
+abbrev pub longCount : Bool → Shape → ℕ
+longCount mpeg1 AllLong = 21
+longCount mpeg1 AllShort = 0
 
-unfoldable pub shortFactors : Bool → List ℕ → List ℕ
-shortFactors true fs = fs ++ 0 ∷ 0 ∷ 0 ∷ []
-shortFactors false fs = replicate 39 0
+-- how many are short, and the place of the first of them: bands 0 to 11, or 3 to 11
+abbrev pub shortCount : Shape → ℕ
+shortCount AllLong = 0
+shortCount AllShort = 36
+
+abbrev pub shortFrom : Shape → ℕ
+shortFrom AllLong = 0
+shortFrom AllShort = 0
+
+unfoldable pub longFactors : Bool → Shape → List ℕ → List ℕ
+longFactors mpeg1 k fs = take (longCount mpeg1 k) fs ++ replicate (22 - longCount mpeg1 k) 0
+
+unfoldable pub shortFactors : Bool → Shape → List ℕ → List ℕ
+shortFactors mpeg1 k fs = replicate (shortFrom k) 0 ++ drop (longCount mpeg1 k) fs ++ replicate (39 - (shortFrom k + shortCount k)) 0
 
 -- n bands of three windows
 unfoldable pub bandsOf : ℕ → List ℕ → List (List ℕ)

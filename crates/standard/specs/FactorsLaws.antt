@@ -3,24 +3,28 @@
 use mathlib.Core.Path.{_≡_, refl, sym, ap, _∙_, subst}
 use mathlib.Core.Bool.{Bool, true, false, _&&_}
 use mathlib.Core.List.{List, [], _∷_, _++_}
-use Prim.Native.Nat.{ℕ, zero, suc, _+_, _*_, _/_, _%_, _<_, _≤_}
+use Prim.Native.Nat.{ℕ, zero, suc, _+_, _-_, _*_, _/_, _%_, _<_, _≤_}
 use native.Mathlib.Nat.{zero-add, zero-mul, suc-mul, le-refl, mul-le-mul}
 use native.Mathlib.Decide.{decLt}
 use native.Mathlib.Omega.{arith}
 use borrow.Author.Tests.{lt-ltb, le-ltb, leb-true, eqb-true}
 use lib.Dec.{ltb, leb, eqb}
-use lib.ListN.{length, getD, take, drop, replicate, length-append, length-replicate}
+use lib.ListN.{length, getD, take, drop, replicate, length-append, length-replicate, length-take, length-drop, drop-of-length-le}
 use lib.Seq.{take-take, take-nil, drop-drop, getD-take, getD-drop}
 use Rattle.standard.specs.Told.{pick}
-use Rattle.standard.specs.ToldLaws.{picked, passed, both-of}
+use Rattle.standard.specs.ToldLaws.{picked, passed, never, both-of}
 use Rattle.standard.specs.Bits.{bits, one, value}
 use Rattle.standard.specs.BitsLaws.{take-bits, one-le}
 use Rattle.standard.specs.RowsLaws.{every, every-at, every-in, rows-long}
-use Rattle.standard.specs.Lengths.{slenRows, slen1, slen2, lowRange, ordinaryLengths, intensityLengths, lowLengths, lowRows, lowCounts}
+use Rattle.standard.specs.Lengths.{slenRows, slen1, slen2, lowRange, ordinaryLengths, intensityLengths, lowLengths, lowRows, rowsFrom, lowCounts}
 use Rattle.standard.specs.LengthsLaws.{range-lt}
-use Rattle.standard.specs.Record.{isShort}
-use Rattle.standard.specs.Factors.{Source, shared, coded, longPlan, shortPlan, lowPlan, planOf, planBits, factorsFrom, longFactors, shortFactors, bandsOf}
+use Rattle.standard.specs.Record.{shapeOf}
+use Rattle.standard.specs.Factors.{Source, shared, coded, planBy, planOf, group, groupsFrom, sourcesOf, mayShare, planBits, factorsFrom, longCount, shortCount, shortFrom, longFactors, shortFactors, bandsOf}
 use Rattle.standard.specs.declared.SlotRecord.{SlotRecord}
+use Rattle.standard.specs.declared.Setting.{Setting}
+use Rattle.standard.specs.declared.Plan.{Plan}
+use Rattle.standard.specs.declared.Shape.{Shape}
+use Rattle.standard.specs.declared.Shape.the-variants.{AllLong, AllShort}
 
 -- ---- one source
 -- the bits that it takes
@@ -94,80 +98,12 @@ pub factors-bits : (ps : List Source) (old s : List ℕ) (at n : ℕ) → planBi
     → factorsFrom ps old (bits s at n) ≡ factorsFrom ps old (bits s at (planBits ps))
 factors-bits ps old s at n h = factors-take ps old (bits s at n) ∙ ap (factorsFrom ps old) (take-bits (planBits ps) s at n h)
 
--- ---- four groups: so many factors each, of such a length each, or granule 0's
-unfoldable pub group : List ℕ → List ℕ → List Bool → ℕ → List Source
-group ns ws xs g = replicate (getD ns g 0) (pick (getD xs g false) shared (coded (getD ws g 0)))
-
--- k groups from the g-th on
-unfoldable pub groupsFrom : List ℕ → List ℕ → List Bool → ℕ → ℕ → List Source
-groupsFrom ns ws xs g zero = []
-groupsFrom ns ws xs g (suc k) = group ns ws xs g ++ groupsFrom ns ws xs (suc g) k
-
--- what a slot's groups are, by scalefac_compress
-unfoldable pub countsOf : Bool → Bool → Bool → ℕ → List ℕ
-countsOf true intensity short c = pick short (18 ∷ 18 ∷ 0 ∷ 0 ∷ []) (6 ∷ 5 ∷ 5 ∷ 5 ∷ [])
-countsOf false intensity short c = lowCounts intensity short (c % 512)
-
-unfoldable pub lengthsOf : Bool → Bool → Bool → ℕ → List ℕ
-lengthsOf true intensity short c = pick short (slen1 c ∷ slen2 c ∷ 0 ∷ 0 ∷ []) (slen1 c ∷ slen1 c ∷ slen2 c ∷ slen2 c ∷ [])
-lengthsOf false intensity short c = lowLengths intensity (c % 512)
-
-unfoldable pub sharedOf : Bool → Bool → List Bool → List Bool
-sharedOf true short shares = pick short (replicate 4 false) shares
-sharedOf false short shares = replicate 4 false
-
-abbrev pub groupsOf : Bool → Bool → Bool → ℕ → List Bool → List Source
-groupsOf mpeg1 intensity short c shares = groupsFrom (countsOf mpeg1 intensity short c) (lengthsOf mpeg1 intensity short c) (sharedOf mpeg1 short shares) 0 4
-
--- MPEG-2's two lists have four members each
-four : (l : List ℕ) → length l ≡ 4 → l ≡ getD l 0 0 ∷ getD l 1 0 ∷ getD l 2 0 ∷ getD l 3 0 ∷ []
-four [] e = absurd (omega arith)
-four (a ∷ []) e = absurd (omega arith)
-four (a ∷ b ∷ []) e = absurd (omega arith)
-four (a ∷ b ∷ c ∷ []) e = absurd (omega arith)
-four (a ∷ b ∷ c ∷ d ∷ []) e = refl
-four (a ∷ b ∷ c ∷ d ∷ x ∷ l) e = absurd (omega arith)
-
-pick-either : {A : Type 0} (P : A → Type 0) (b : Bool) {x y : A} → P x → P y → P (pick b x y)
-unfolding pick
-pick-either P true p q = p
-pick-either P false p q = q
-
-counts-four : (intensity short : Bool) (c : ℕ) → length (lowCounts intensity short c) ≡ 4
-unfolding every lowRows lowCounts
-counts-four intensity short c =
-    rows-long 4 lowRows refl (6 * one intensity + 3 * one short + lowRange intensity c) (omega (arith, one-le intensity, one-le short, range-lt intensity c))
-
-abbrev Four : List ℕ → Type 0
-Four l = length l ≡ 4
-
-lengths-four : (intensity : Bool) (c : ℕ) → length (lowLengths intensity c) ≡ 4
-unfolding lowLengths ordinaryLengths intensityLengths
-lengths-four false c = pick-either Four (ltb c 400) refl (pick-either Four (ltb c 500) refl refl)
-lengths-four true c = pick-either Four (ltb (c / 2) 180) refl (pick-either Four (ltb (c / 2) 244) refl refl)
-
-low-groups : (ns ws : List ℕ) → length ns ≡ 4 → length ws ≡ 4 → lowPlan ns ws ≡ groupsFrom ns ws (replicate 4 false) 0 4
-unfolding lowPlan group groupsFrom pick
-low-groups ns ws p q = λ j. lowPlan (four ns p j) (four ws q j)
-
-mpeg1-groups : (intensity short : Bool) (c : ℕ) (shares : List Bool)
-    → pick short (shortPlan c) (longPlan c shares) ≡ groupsOf true intensity short c shares
-unfolding pick shortPlan longPlan countsOf lengthsOf sharedOf group groupsFrom
-mpeg1-groups intensity true c shares = refl
-mpeg1-groups intensity false c shares = refl
-
--- every plan is its four groups
-pub plan-groups : (mpeg1 intensity : Bool) (shares : List Bool) (r : SlotRecord)
-    → planOf mpeg1 intensity shares r ≡ groupsOf mpeg1 intensity (isShort (r .block)) (r .compress) shares
-unfolding planOf countsOf lengthsOf sharedOf
-plan-groups true intensity shares r = mpeg1-groups intensity (isShort (r .block)) (r .compress) shares
-plan-groups false intensity shares r =
-    let c = r .compress % 512 in
-    low-groups (lowCounts intensity (isShort (r .block)) c) (lowLengths intensity c) (counts-four intensity (isShort (r .block)) c) (lengths-four intensity c)
-
--- ---- how many factors a plan has: 21, or 36 in a short block
+-- ---- how many factors a plan has, by its shape
 total : List ℕ → ℕ
 total ns = getD ns 0 0 + getD ns 1 0 + getD ns 2 0 + getD ns 3 0
+
+abbrev pub factorCount : Bool → Shape → ℕ
+factorCount mpeg1 k = longCount mpeg1 k + shortCount k
 
 -- the three rows of one kind of slot have one total
 three-rows : (n from : ℕ) → every (λ (row : List ℕ). eqb (total row) n) (take 3 (drop from lowRows)) ≡ true
@@ -176,30 +112,30 @@ three-rows n from t e k h =
     ap total (sym (getD-take 3 (drop from lowRows) k [] h ∙ getD-drop from lowRows k []))
     ∙ eqb-true _ _ (every-in (λ (row : List ℕ). eqb (total row) n) [] (take 3 (drop from lowRows)) t k (omega arith))
 
-low-total : (intensity short : Bool) (k : ℕ) → k < 3 → total (getD lowRows (6 * one intensity + 3 * one short + k) []) ≡ pick short 36 21
-unfolding pick every lowRows total
-low-total false false = three-rows 21 0 refl refl
-low-total false true = three-rows 36 3 refl refl
-low-total true false = three-rows 21 6 refl refl
-low-total true true = three-rows 36 9 refl refl
+low-total : (intensity : Bool) (k : Shape) (n : ℕ) → n < 3 → total (getD lowRows (6 * one intensity + rowsFrom k + n) []) ≡ factorCount false k
+unfolding every lowRows total
+low-total false AllLong = three-rows 21 0 refl refl
+low-total false AllShort = three-rows 36 3 refl refl
+low-total true AllLong = three-rows 21 6 refl refl
+low-total true AllShort = three-rows 36 9 refl refl
 
-counts-total : (mpeg1 intensity short : Bool) (c : ℕ) → total (countsOf mpeg1 intensity short c) ≡ pick short 36 21
-unfolding pick total countsOf lowCounts
-counts-total true intensity true c = refl
-counts-total true intensity false c = refl
-counts-total false intensity short c = low-total intensity short (lowRange intensity (c % 512)) (range-lt intensity (c % 512))
+counts-total : (mpeg1 intensity : Bool) (shares : List Bool) (k : Shape) (c : ℕ) → total (planBy mpeg1 intensity shares k c .counts) ≡ factorCount mpeg1 k
+unfolding total planBy lowCounts
+counts-total true intensity shares AllLong c = refl
+counts-total true intensity shares AllShort c = refl
+counts-total false intensity shares k c = low-total intensity k (lowRange intensity (c % 512)) (range-lt intensity (c % 512))
 
-groups-total : (ns ws : List ℕ) (xs : List Bool) → length (groupsFrom ns ws xs 0 4) ≡ total ns
+groups-total : (p : Plan) → length (sourcesOf p) ≡ total (p .counts)
 unfolding group groupsFrom total
-groups-total ns ws xs = simp (length-append, length-replicate) (omega arith)
+groups-total p = simp (length-append, length-replicate) (omega arith)
 
-pub plan-length : (mpeg1 intensity : Bool) (shares : List Bool) (r : SlotRecord)
-    → length (planOf mpeg1 intensity shares r) ≡ pick (isShort (r .block)) 36 21
-plan-length mpeg1 intensity shares r =
-    let short = isShort (r .block) in
-    ap length (plan-groups mpeg1 intensity shares r)
-    ∙ groups-total (countsOf mpeg1 intensity short (r .compress)) (lengthsOf mpeg1 intensity short (r .compress)) (sharedOf mpeg1 short shares)
-    ∙ counts-total mpeg1 intensity short (r .compress)
+pub plan-length : (g : Setting) (r : SlotRecord) → length (sourcesOf (planOf g r)) ≡ factorCount (g .mpeg1) (shapeOf r)
+unfolding planOf
+plan-length g r = groups-total (planOf g r) ∙ counts-total (g .mpeg1) (g .intensity) (g .shares) (shapeOf r) (r .«scalefac_compress»)
+
+pub few-factors : (mpeg1 : Bool) (k : Shape) → factorCount mpeg1 k ≤ 36
+few-factors mpeg1 AllLong = omega arith
+few-factors mpeg1 AllShort = omega arith
 
 -- ---- no factor has more than 5 bits
 abbrev Small : List ℕ → Type 0
@@ -234,12 +170,12 @@ intensity-small c h =
     by-test Small c 180 (λ l. small-four (omega arith) (omega arith) (omega arith) (omega arith))
     (λ l. by-test Small c 244 (λ m. small-four (omega arith) (omega arith) (omega arith) (omega arith)) (λ m. small-four (omega arith) (omega arith) (omega arith) (omega arith)))
 
-pub lengths-small : (mpeg1 intensity short : Bool) (c g : ℕ) → getD (lengthsOf mpeg1 intensity short c) g 0 ≤ 5
-unfolding pick lengthsOf lowLengths
-lengths-small true intensity true c = let w = slen-small c in small-four (w .0) (w .1) (omega arith) (omega arith)
-lengths-small true intensity false c = let w = slen-small c in small-four (w .0) (w .0) (w .1) (w .1)
-lengths-small false false short c = ordinary-small (c % 512) (omega arith)
-lengths-small false true short c = intensity-small (c % 512 / 2) (omega arith)
+pub lengths-small : (mpeg1 intensity : Bool) (shares : List Bool) (k : Shape) (c g : ℕ) → getD (planBy mpeg1 intensity shares k c .lengths) g 0 ≤ 5
+unfolding planBy lowLengths
+lengths-small true intensity shares AllLong c = let w = slen-small c in small-four (w .0) (w .0) (w .1) (w .1)
+lengths-small true intensity shares AllShort c = let w = slen-small c in small-four (w .0) (w .1) (omega arith) (omega arith)
+lengths-small false false shares k c = ordinary-small (c % 512) (omega arith)
+lengths-small false true shares k c = intensity-small (c % 512 / 2) (omega arith)
 
 pub source-small : (x : Bool) (w : ℕ) → w ≤ 5 → widthOf (pick x shared (coded w)) ≤ 5
 unfolding pick
@@ -251,42 +187,32 @@ unfolding planBits
 copies-bits zero x = sym (zero-mul (widthOf x))
 copies-bits (suc n) x = omega (arith, plan-bits-cons x (replicate n x), copies-bits n x, suc-mul n (widthOf x))
 
-pub group-bits : (ns ws : List ℕ) (xs : List Bool) (g : ℕ)
-    → planBits (group ns ws xs g) ≡ getD ns g 0 * widthOf (pick (getD xs g false) shared (coded (getD ws g 0)))
-unfolding group
-group-bits ns ws xs g = copies-bits (getD ns g 0) (pick (getD xs g false) shared (coded (getD ws g 0)))
+module _ (p : Plan) (g : ℕ) where
+  pub group-bits : planBits (group p g) ≡ getD (p .counts) g 0 * widthOf (pick (getD (p .shares) g false) shared (coded (getD (p .lengths) g 0)))
+  unfolding group
+  group-bits = copies-bits (getD (p .counts) g 0) (pick (getD (p .shares) g false) shared (coded (getD (p .lengths) g 0)))
 
-pub group-length : (ns ws : List ℕ) (xs : List Bool) (g : ℕ) → length (group ns ws xs g) ≡ getD ns g 0
-unfolding group
-group-length ns ws xs g = length-replicate (getD ns g 0) (pick (getD xs g false) shared (coded (getD ws g 0)))
+  pub group-length : length (group p g) ≡ getD (p .counts) g 0
+  unfolding group
+  group-length = length-replicate (getD (p .counts) g 0) (pick (getD (p .shares) g false) shared (coded (getD (p .lengths) g 0)))
 
-pub group-small : (ns ws : List ℕ) (xs : List Bool) (g : ℕ) → getD ws g 0 ≤ 5 → planBits (group ns ws xs g) ≤ 5 * getD ns g 0
-group-small ns ws xs g h =
-    let most = mul-le-mul (le-refl (getD ns g 0)) (source-small (getD xs g false) (getD ws g 0) h) in
-    omega (arith, group-bits ns ws xs g)
+  pub group-small : getD (p .lengths) g 0 ≤ 5 → planBits (group p g) ≤ 5 * getD (p .counts) g 0
+  group-small h =
+      let most = mul-le-mul (le-refl (getD (p .counts) g 0)) (source-small (getD (p .shares) g false) (getD (p .lengths) g 0) h) in
+      omega (arith, group-bits)
 
-pub groups-small : (ns ws : List ℕ) (xs : List Bool) → ((g : ℕ) → getD ws g 0 ≤ 5) → (g k : ℕ)
-    → planBits (groupsFrom ns ws xs g k) ≤ 5 * length (groupsFrom ns ws xs g k)
+pub groups-small : (p : Plan) → ((g : ℕ) → getD (p .lengths) g 0 ≤ 5) → (g k : ℕ) → planBits (groupsFrom p g k) ≤ 5 * length (groupsFrom p g k)
 unfolding groupsFrom planBits
-groups-small ns ws xs h g zero = omega arith
-groups-small ns ws xs h g (suc k) =
-    let own = group ns ws xs g in
-    let rest = groupsFrom ns ws xs (suc g) k in
+groups-small p h g zero = omega arith
+groups-small p h g (suc k) =
     omega
-    (arith, plan-bits-append own rest, length-append own rest, group-length ns ws xs g, group-small ns ws xs g (h g), groups-small ns ws xs h (suc g) k)
+    (arith, plan-bits-append (group p g) (groupsFrom p (suc g) k), length-append (group p g) (groupsFrom p (suc g) k), group-length p g, group-small p g (h g), groups-small p h (suc g) k)
 
-pub plan-small : (mpeg1 intensity : Bool) (shares : List Bool) (r : SlotRecord) → planBits (planOf mpeg1 intensity shares r) ≤ 180
-unfolding pick
-plan-small mpeg1 intensity shares r =
-    let short = isShort (r .block) in
-    let ws = lengthsOf mpeg1 intensity short (r .compress) in
-    let e = plan-groups mpeg1 intensity shares r in
-    let q = groups-small (countsOf mpeg1 intensity short (r .compress)) ws (sharedOf mpeg1 short shares) (lengths-small mpeg1 intensity short (r .compress)) 0 4 in
-    omega (arith, ap planBits e, ap length e, q, plan-length mpeg1 intensity shares r, most (isShort (r .block)))
-  where
-    most : (short : Bool) → pick short 36 21 ≤ 36
-    most true = omega arith
-    most false = omega arith
+pub plan-small : (g : Setting) (r : SlotRecord) → planBits (sourcesOf (planOf g r)) ≤ 180
+unfolding planOf
+plan-small g r =
+    let q = groups-small (planOf g r) (lengths-small (g .mpeg1) (g .intensity) (g .shares) (shapeOf r) (r .«scalefac_compress»)) 0 4 in
+    omega (arith, q, plan-length g r, few-factors (g .mpeg1) (shapeOf r))
 
 -- ---- what is not shared does not go by granule 0
 abbrev pub Unshared : List Source → Type 0
@@ -302,71 +228,63 @@ unfolding factorsFrom
 copies-unshared zero w old old′ b = refl
 copies-unshared (suc n) w old old′ b = ap (λ (l : List ℕ). value (take w b) ∷ l) (copies-unshared n w (drop 1 old) (drop 1 old′) (drop w b))
 
-groups-unshared : (ns ws : List ℕ) (xs : List Bool) → ((g : ℕ) → getD xs g false ≡ false) → (g k : ℕ) → Unshared (groupsFrom ns ws xs g k)
+groups-unshared : (p : Plan) → ((g : ℕ) → getD (p .shares) g false ≡ false) → (g k : ℕ) → Unshared (groupsFrom p g k)
 unfolding pick group groupsFrom factorsFrom
-groups-unshared ns ws xs h g zero old old′ b = refl
-groups-unshared ns ws xs h g (suc k) old old′ b =
-    let n = getD ns g 0 in
-    let w = getD ws g 0 in
-    let own = replicate n (pick (getD xs g false) shared (coded w)) in
-    let rest = groupsFrom ns ws xs (suc g) k in
+groups-unshared p h g zero old old′ b = refl
+groups-unshared p h g (suc k) old old′ b =
+    let n = getD (p .counts) g 0 in
+    let w = getD (p .lengths) g 0 in
+    let own = replicate n (pick (getD (p .shares) g false) shared (coded w)) in
+    let rest = groupsFrom p (suc g) k in
     let unshared : Unshared own = subst (λ (x : Bool). Unshared (replicate n (pick x shared (coded w)))) (sym (h g)) (copies-unshared n w) in
     factors-append own rest old b
-    ∙ (λ j. unshared old old′ b j ++ groups-unshared ns ws xs h (suc g) k (drop (length own) old) (drop (length own) old′) (drop (planBits own) b) j)
+    ∙ (λ j. unshared old old′ b j ++ groups-unshared p h (suc g) k (drop (length own) old) (drop (length own) old′) (drop (planBits own) b) j)
     ∙ sym (factors-append own rest old′ b)
 
-unshared-plan : (mpeg1 intensity : Bool) (shares : List Bool) (r : SlotRecord)
-    → ((g : ℕ) → getD (sharedOf mpeg1 (isShort (r .block)) shares) g false ≡ false) → Unshared (planOf mpeg1 intensity shares r)
-unshared-plan mpeg1 intensity shares r h =
-    let short = isShort (r .block) in
-    subst Unshared (sym (plan-groups mpeg1 intensity shares r))
-    (groups-unshared (countsOf mpeg1 intensity short (r .compress)) (lengthsOf mpeg1 intensity short (r .compress)) (sharedOf mpeg1 short shares) h 0 4)
+-- only long bands share, and only by a bit in force
+pub shape-unshares : (mpeg1 intensity : Bool) (shares : List Bool) (k : Shape) (c : ℕ) → mayShare k ≡ false → (g : ℕ) → getD (planBy mpeg1 intensity shares k c .shares) g false ≡ false
+unfolding planBy
+shape-unshares true intensity shares AllLong c e = never (sym e)
+shape-unshares true intensity shares AllShort c e = none-shared 4
+shape-unshares false intensity shares k c e = none-shared 4
 
--- a short block
-pub short-unshares : (mpeg1 : Bool) (shares : List Bool) {short : Bool} → short ≡ true → (g : ℕ) → getD (sharedOf mpeg1 short shares) g false ≡ false
-unfolding sharedOf
-short-unshares true shares e g = ap (λ (l : List Bool). getD l g false) (picked shares e) ∙ none-shared 4 g
-short-unshares false shares e g = none-shared 4 g
+pub none-unshares : (mpeg1 intensity : Bool) (shares : List Bool) (k : Shape) (c : ℕ) → ((g : ℕ) → getD shares g false ≡ false) → (g : ℕ) → getD (planBy mpeg1 intensity shares k c .shares) g false ≡ false
+unfolding planBy
+none-unshares true intensity shares AllLong c h = h
+none-unshares true intensity shares AllShort c h = none-shared 4
+none-unshares false intensity shares k c h = none-shared 4
 
-pub short-unshared : (mpeg1 intensity : Bool) (shares : List Bool) (r : SlotRecord) → isShort (r .block) ≡ true → Unshared (planOf mpeg1 intensity shares r)
-short-unshared mpeg1 intensity shares r e = unshared-plan mpeg1 intensity shares r (short-unshares mpeg1 shares e)
-
--- so short factors never do
-pub short-any-old : (mpeg1 intensity : Bool) (shares : List Bool) (r : SlotRecord) (old old′ : List ℕ) (b : List Bool)
-    → shortFactors (isShort (r .block)) (factorsFrom (planOf mpeg1 intensity shares r) old b)
-    ≡ shortFactors (isShort (r .block)) (factorsFrom (planOf mpeg1 intensity shares r) old′ b)
-unfolding shortFactors
-short-any-old mpeg1 intensity shares r old old′ b = go (isShort (r .block)) refl
-  where
-    go : (short : Bool) → isShort (r .block) ≡ short
-        → shortFactors short (factorsFrom (planOf mpeg1 intensity shares r) old b) ≡ shortFactors short (factorsFrom (planOf mpeg1 intensity shares r) old′ b)
-    go true e = ap (shortFactors true) (short-unshared mpeg1 intensity shares r e old old′ b)
-    go false e = refl
-
--- a slot of granule 0
-plain-unshares : (mpeg1 short : Bool) (g : ℕ) → getD (sharedOf mpeg1 short (replicate 4 false)) g false ≡ false
-unfolding pick sharedOf
-plain-unshares true true g = none-shared 4 g
-plain-unshares true false g = none-shared 4 g
-plain-unshares false short g = none-shared 4 g
-
-pub plain-unshared : (mpeg1 intensity : Bool) (r : SlotRecord) → Unshared (planOf mpeg1 intensity (replicate 4 false) r)
-plain-unshared mpeg1 intensity r = unshared-plan mpeg1 intensity (replicate 4 false) r (plain-unshares mpeg1 (isShort (r .block)))
+pub unshared-plan : (g : Setting) (r : SlotRecord) → ((n : ℕ) → getD (g .shares) n false ≡ false) → Unshared (sourcesOf (planOf g r))
+unfolding planOf
+unshared-plan g r h = groups-unshared (planOf g r) (none-unshares (g .mpeg1) (g .intensity) (g .shares) (shapeOf r) (r .«scalefac_compress») h) 0 4
 
 -- ---- long factors are 22, short ones 39, in bands of three
-pub plan-factors-length : (mpeg1 intensity : Bool) (shares : List Bool) (r : SlotRecord) (old : List ℕ) (b : List Bool)
-    → length (factorsFrom (planOf mpeg1 intensity shares r) old b) ≡ pick (isShort (r .block)) 36 21
-plan-factors-length mpeg1 intensity shares r old b = factors-length (planOf mpeg1 intensity shares r) old b ∙ plan-length mpeg1 intensity shares r
+pub plan-factors-length : (g : Setting) (r : SlotRecord) (old : List ℕ) (b : List Bool) → length (factorsFrom (sourcesOf (planOf g r)) old b) ≡ factorCount (g .mpeg1) (shapeOf r)
+plan-factors-length g r old b = factors-length (sourcesOf (planOf g r)) old b ∙ plan-length g r
 
-pub long-length : (short : Bool) (fs : List ℕ) → length fs ≡ pick short 36 21 → length (longFactors short fs) ≡ 22
-unfolding pick longFactors
-long-length true fs e = refl
-long-length false fs e = length-append fs (0 ∷ []) ∙ ap (λ (n : ℕ). n + 1) e
+room : (mpeg1 : Bool) (k : Shape) → (longCount mpeg1 k ≤ 21) × (shortFrom k + shortCount k ≤ 36)
+room mpeg1 AllLong = (omega arith, omega arith)
+room mpeg1 AllShort = (omega arith, omega arith)
 
-pub short-length : (short : Bool) (fs : List ℕ) → length fs ≡ pick short 36 21 → length (shortFactors short fs) ≡ 39
-unfolding pick shortFactors
-short-length true fs e = length-append fs (0 ∷ 0 ∷ 0 ∷ []) ∙ ap (λ (n : ℕ). n + 3) e
-short-length false fs e = refl
+pub long-length : (mpeg1 : Bool) (k : Shape) (fs : List ℕ) → length fs ≡ factorCount mpeg1 k → length (longFactors mpeg1 k fs) ≡ 22
+unfolding longFactors
+long-length mpeg1 k fs e = simp (length-append, length-replicate, length-take) (omega (arith, room mpeg1 k))
+
+pub short-length : (mpeg1 : Bool) (k : Shape) (fs : List ℕ) → length fs ≡ factorCount mpeg1 k → length (shortFactors mpeg1 k fs) ≡ 39
+unfolding shortFactors
+short-length mpeg1 k fs e = simp (length-append, length-replicate, length-drop) (omega (arith, room mpeg1 k))
+
+-- short factors never go by granule 0
+pub short-any-old : (g : Setting) (r : SlotRecord) (old old′ : List ℕ) (b : List Bool)
+    → shortFactors (g .mpeg1) (shapeOf r) (factorsFrom (sourcesOf (planOf g r)) old b) ≡ shortFactors (g .mpeg1) (shapeOf r) (factorsFrom (sourcesOf (planOf g r)) old′ b)
+unfolding shortFactors planOf
+short-any-old g r old old′ b = go (shapeOf r) refl
+  where
+    go : (k : Shape) → shapeOf r ≡ k → shortFactors (g .mpeg1) (shapeOf r) (factorsFrom (sourcesOf (planOf g r)) old b) ≡ shortFactors (g .mpeg1) (shapeOf r) (factorsFrom (sourcesOf (planOf g r)) old′ b)
+    go AllLong e =
+        let none : (o : List ℕ) → drop (longCount (g .mpeg1) (shapeOf r)) (factorsFrom (sourcesOf (planOf g r)) o b) ≡ [] = λ o. drop-of-length-le (factorsFrom (sourcesOf (planOf g r)) o b) {i = longCount (g .mpeg1) (shapeOf r)} (omega (arith, plan-factors-length g r o b, ap shortCount e)) in
+        ap (λ (l : List ℕ). replicate (shortFrom (shapeOf r)) 0 ++ l ++ replicate (39 - (shortFrom (shapeOf r) + shortCount (shapeOf r))) 0) (none old ∙ sym (none old′))
+    go AllShort e = ap (shortFactors (g .mpeg1) (shapeOf r)) (groups-unshared (planOf g r) (shape-unshares (g .mpeg1) (g .intensity) (g .shares) (shapeOf r) (r .«scalefac_compress») (ap mayShare e)) 0 4 old old′ b)
 
 pub bands-length : (n : ℕ) (fs : List ℕ) → length (bandsOf n fs) ≡ n
 unfolding bandsOf

@@ -52,7 +52,7 @@ unfoldable pub withSide : FrameHeader → List ℕ → List ℕ → Told SideInf
 withSide h s old (refused r) = noStep r
 withSide h s old (told i) =
     pick (ltb (length s) (frameLength h)) (noStep AbsentBytes)
-    (withTurn h i (turnOf (i .begin) old (take (mainSize h) (drop (headerSize h + sideSize h) s))))
+    (withTurn h i (turnOf (i .«main_data_begin») old (take (mainSize h) (drop (headerSize h + sideSize h) s))))
 
 unfoldable pub withHeader : List ℕ → List ℕ → Told FrameHeader → Step
 withHeader s old (refused r) = noStep r

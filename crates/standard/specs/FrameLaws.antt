@@ -79,7 +79,7 @@ module _ (s old : List ℕ) where
       frame-absent l = ap (withHeader s old) e ∙ ap (withSide h s old) f ∙ picked _ (lt-ltb (length s) (frameLength h) l)
 
       pub frame-turn : frameLength h ≤ length s
-          → frameOf s old ≡ withTurn h i (turnOf (i .begin) old (take (mainSize h) (drop (headerSize h + sideSize h) s)))
+          → frameOf s old ≡ withTurn h i (turnOf (i .«main_data_begin») old (take (mainSize h) (drop (headerSize h + sideSize h) s)))
       unfolding frameOf withHeader withSide
       frame-turn l = ap (withHeader s old) e ∙ ap (withSide h s old) f ∙ passed _ (le-ltb (length s) (frameLength h) l)
 

@@ -12,12 +12,13 @@ use Rattle.standard.specs.ToldLaws.{either-way}
 use Rattle.standard.specs.Refusals.{numberOf}
 use Rattle.standard.specs.Codes.{wordOf}
 use Rattle.standard.specs.CodesLaws.{complete}
-use Rattle.standard.specs.Record.{isShort}
-use Rattle.standard.specs.Factors.{planOf, planBits}
+use Rattle.standard.specs.Record.{shapeOf}
+use Rattle.standard.specs.Factors.{planOf, sourcesOf, planBits}
 use Rattle.standard.specs.Numbers.{Reader, numberIn, twoLast, twoFirst, twoOf, pairAfter, pairWord, pairOf, quadOf, Numbers, halted, got, prepend, thenPairs, pairs, thenQuads, quads, thenRest, numbersBy, regionsOf, numbersOf, quadWord, quadFirst, quadLast}
 use Rattle.standard.specs.Slots.{Outcome, stopped, holds, anyOf, withFactors, slotBy, slotOf}
 use Rattle.standard.specs.declared.SampleRate.{SampleRate}
 use Rattle.standard.specs.declared.Setting.{Setting}
+use Rattle.standard.specs.declared.Shape.{Shape}
 use Rattle.standard.specs.declared.SlotRecord.{SlotRecord}
 use Rattle.standard.specs.declared.Refusal.{Refusal}
 use Rattle.standard.specs.declared.Refusal.the-variants.{FactorOverrun, LostShare, RegionOverrun, PairOverrun, NoCodeword}
@@ -136,7 +137,7 @@ module _ (ok : Refusal → Bool) (word : Reader) (allows : Allows ok word) where
   by-ok : (r : SlotRecord) (g : Regions) (b : List Bool) → ok-numbers (numbersBy word r g b) ≡ true
   unfolding numbersBy ok-numbers
   by-ok r NoRegions b = allows .region
-  by-ok r (Split first second) b = rest-ok _ (r .pairs) _ (pairs-ok _ 0 (r .pairs) b)
+  by-ok r (Split first second) b = rest-ok _ (r .«big_values») _ (pairs-ok _ 0 (r .«big_values») b)
 
   numbers-ok : (rate : SampleRate) (r : SlotRecord) (b : List Bool) → ok-numbers (numbersOf word rate r b) ≡ true
   unfolding numbersOf ok-numbers
@@ -144,18 +145,18 @@ module _ (ok : Refusal → Bool) (word : Reader) (allows : Allows ok word) where
   numbers-ok rate r (a ∷ b) = by-ok r (regionsOf rate r) (a ∷ b)
 
   -- ---- with its factors
-  factors-ok : (short : Bool) (fs : List ℕ) (q : Numbers) → ok-numbers q ≡ true → allowed ok (withFactors short fs q) ≡ true
+  factors-ok : (mpeg1 : Bool) (k : Shape) (fs : List ℕ) (q : Numbers) → ok-numbers q ≡ true → allowed ok (withFactors mpeg1 k fs q) ≡ true
   unfolding withFactors allowed ok-numbers
-  factors-ok short fs (halted r) e = e
-  factors-ok short fs (got vs b) e = refl
+  factors-ok mpeg1 k fs (halted r) e = e
+  factors-ok mpeg1 k fs (got vs b) e = refl
 
 pub slot-allowed : (ok : Refusal → Bool) → Allows ok wordOf → (g : Setting) (r : SlotRecord) (lost : Bool) (old : List ℕ) (b : List Bool)
     → allowed ok (slotOf g r lost old b) ≡ true
 unfolding slotOf slotBy allowed
 slot-allowed ok a g r lost old b =
-    either-way (λ (o : Outcome). allowed ok o ≡ true) (ltb (r .length) (planBits (planOf (g .mpeg1) (g .intensity) (g .shares) r))) _ _ (λ e. a .factors)
+    either-way (λ (o : Outcome). allowed ok o ≡ true) (ltb (r .«part2_3_length») (planBits (sourcesOf (planOf g r)))) _ _ (λ e. a .factors)
     (λ e. either-way (λ (o : Outcome). allowed ok o ≡ true) (anyOf (g .shares) && lost) _ _ (λ f. a .share)
-    (λ f. factors-ok ok wordOf a (isShort (r .block)) _ _ (numbers-ok ok wordOf a (g .rate) r _)))
+    (λ f. factors-ok ok wordOf a (g .mpeg1) (shapeOf r) _ _ (numbers-ok ok wordOf a (g .rate) r _)))
 
 -- ---- the two tests that matter
 -- every reason but one

@@ -220,23 +220,23 @@ module _ (h : FrameHeader) (known : isHeader h ≡ true) where
   main-size-le = omega (arith, main-size-by, side-least (isMpeg1 (h .version)) (isTwo (h .channels)))
 
 -- ---- and of side information under it
-begin-lt : (h : FrameHeader) (i : SideInfo) → isSide h i ≡ true → i .begin < 2 ^ beginWidth (isMpeg1 (h .version))
+begin-lt : (h : FrameHeader) (i : SideInfo) → isSide h i ≡ true → i .«main_data_begin» < 2 ^ beginWidth (isMpeg1 (h .version))
 unfolding isSide isSideBy
 begin-lt h i e = ltb-true _ _ (both-of _ _ (both-of _ _ e .0) .0)
 
-pub begin-le : (h : FrameHeader) (i : SideInfo) → isSide h i ≡ true → i .begin ≤ 511
+pub begin-le : (h : FrameHeader) (i : SideInfo) → isSide h i ≡ true → i .«main_data_begin» ≤ 511
 begin-le h i e = go (isMpeg1 (h .version)) (begin-lt h i e)
   where
-    go : (mpeg1 : Bool) → i .begin < 2 ^ beginWidth mpeg1 → i .begin ≤ 511
+    go : (mpeg1 : Bool) → i .«main_data_begin» < 2 ^ beginWidth mpeg1 → i .«main_data_begin» ≤ 511
     go true l = omega arith
     go false l = omega arith
 
 -- the longest reservoir that a frame leaves
-pub reservoir-le : (h : FrameHeader) (i : SideInfo) → isHeader h ≡ true → isSide h i ≡ true → i .begin + mainSize h ≤ 1931
+pub reservoir-le : (h : FrameHeader) (i : SideInfo) → isHeader h ≡ true → isSide h i ≡ true → i .«main_data_begin» + mainSize h ≤ 1931
 unfolding sideSize
 reservoir-le h i known e = go (isMpeg1 (h .version)) (isTwo (h .channels)) (begin-lt h i e) (main-size-by h known)
   where
-    go : (mpeg1 two : Bool) → i .begin < 2 ^ beginWidth mpeg1 → mainSize h + sideBytes mpeg1 two ≤ 1437 → i .begin + mainSize h ≤ 1931
+    go : (mpeg1 two : Bool) → i .«main_data_begin» < 2 ^ beginWidth mpeg1 → mainSize h + sideBytes mpeg1 two ≤ 1437 → i .«main_data_begin» + mainSize h ≤ 1931
     go true true l m = omega arith
     go true false l m = omega arith
     go false true l m = omega arith

@@ -6,6 +6,8 @@ use lib.Dec.{ltb}
 use lib.ListN.{getD}
 use Rattle.standard.specs.Told.{pick}
 use Rattle.standard.specs.Bits.{one}
+use Rattle.standard.specs.declared.Shape.{Shape}
+use Rattle.standard.specs.declared.Shape.the-variants.{AllLong, AllShort}
 
 -- MPEG-1: slen1 and slen2 of scalefac_compress 0 to 15
 unfoldable pub slenRows : List (List ℕ)
@@ -61,7 +63,7 @@ unfoldable pub lowLengths : Bool → ℕ → List ℕ
 lowLengths false c = ordinaryLengths c
 lowLengths true c = intensityLengths (c / 2)
 
--- how many factors have each length, a line for each range: long blocks, then short ones with three windows to a band;
+-- how many factors have each length, a line for each range: long bands, then short ones with three windows to each;
 -- then the same for the second channel under intensity stereo
 unfoldable pub lowRows : List (List ℕ)
 lowRows =
@@ -79,5 +81,9 @@ lowRows =
     (15 ∷ 12 ∷ 9 ∷ 0 ∷ []) ∷
     []
 
-unfoldable pub lowCounts : Bool → Bool → ℕ → List ℕ
-lowCounts intensity short c = getD lowRows (6 * one intensity + 3 * one short + lowRange intensity c) []
+abbrev pub rowsFrom : Shape → ℕ
+rowsFrom AllLong = 0
+rowsFrom AllShort = 3
+
+unfoldable pub lowCounts : Bool → Shape → ℕ → List ℕ
+lowCounts intensity k c = getD lowRows (6 * one intensity + rowsFrom k + lowRange intensity c) []

@@ -11,9 +11,11 @@ use Rattle.standard.specs.Told.{pick}
 use Rattle.standard.specs.Bits.{value}
 use Rattle.standard.specs.Codes.{escapeWidth}
 use Rattle.standard.specs.Bands.{longStart}
-use Rattle.standard.specs.Record.{isShort, isLong}
+use Rattle.standard.specs.Record.{isLong, shapeOf}
 use Rattle.standard.specs.declared.SampleRate.{SampleRate}
 use Rattle.standard.specs.declared.SlotRecord.{SlotRecord}
+use Rattle.standard.specs.declared.Shape.{Shape}
+use Rattle.standard.specs.declared.Shape.the-variants.{AllLong, AllShort}
 use Rattle.standard.specs.declared.Refusal.{Refusal}
 use Rattle.standard.specs.declared.Refusal.the-variants.{RegionOverrun, PairOverrun, NoCodeword}
 use Rattle.standard.specs.declared.Codeword.{Codeword}
@@ -109,12 +111,16 @@ abbrev pub quadTable : Bool → ℕ
 quadTable false = 32
 quadTable true = 33
 
--- ---- which table a pair is of, by its position: the regions (region0_count, region1_count). Short blocks change at 36 only
-unfoldable pub regionsOf : SampleRate → SlotRecord → Regions
-regionsOf rate r =
-    pick (isShort (r .block)) (Split 36 576)
-    (pick (isLong (r .block) && ltb 20 (r .region0 + r .region1)) NoRegions
-    (Split (longStart rate (r .region0 + 1)) (longStart rate (r .region0 + r .region1 + 2))))
+-- ---- which table a pair is of, by its position: the regions. Those of long bands end where the bands of region0_count and region1_count do;
+-- short bands change at 36 only
+unfoldable pub regionsBy : Shape → SampleRate → SlotRecord → Regions
+regionsBy AllLong rate r =
+    pick (isLong (r .«block_type») && ltb 20 (r .«region0_count» + r .«region1_count»)) NoRegions
+    (Split (longStart rate (r .«region0_count» + 1)) (longStart rate (r .«region0_count» + r .«region1_count» + 2)))
+regionsBy AllShort rate r = Split 36 576
+
+abbrev pub regionsOf : SampleRate → SlotRecord → Regions
+regionsOf rate r = regionsBy (shapeOf r) rate r
 
 unfoldable pub tableAt : ℕ → ℕ → List ℕ → ℕ → ℕ
 tableAt first second tables position =
@@ -159,7 +165,7 @@ thenRest word t n (got vs b) = prepend vs (quads word t ((576 - 2 * n) / 4) b)
 unfoldable pub numbersBy : Reader → SlotRecord → Regions → List Bool → Numbers
 numbersBy word r NoRegions b = halted RegionOverrun
 numbersBy word r (Split first second) b =
-    thenRest word (quadTable (r .count1)) (r .pairs) (pairs word (tableAt first second (r .tables)) 0 (r .pairs) b)
+    thenRest word (quadTable (r .«count1table_select»)) (r .«big_values») (pairs word (tableAt first second (r .«table_select»)) 0 (r .«big_values») b)
 
 -- no bits: no numbers, whatever big_values says, as in the Rust
 unfoldable pub numbersOf : Reader → SampleRate → SlotRecord → List Bool → Numbers

@@ -11,8 +11,8 @@ use lib.IntN.{ℤ, pos, natAbs}
 use lib.ListN.{length, getD, take, drop, length-append, length-drop, length-take}
 use lib.Pow.{pow-mono}
 use Rattle.standard.specs.ToldLaws.{picked, passed, either-way, both, both-of, never}
-use Rattle.standard.specs.Bits.{window, value, fieldAt}
-use Rattle.standard.specs.BitsLaws.{window-nil, window-cons, window-length, take-bits, value-lt}
+use Rattle.standard.specs.Bits.{between, value, fieldAt}
+use Rattle.standard.specs.BitsLaws.{between-nil, between-cons, between-length, take-bits, value-lt}
 use Rattle.standard.specs.RowsLaws.{every, every-at, every-append}
 use Rattle.standard.specs.Codes.{Entry, entry, lowBits, pair, quad, starts, first, begun, decode, silent, table1, table2, table3, table5, table6, table7, table8, table9, table10, table11, table12, table13, table15, table16, table24, tableA, tableB, codes, published, wordOf, escapes, escapeWidth}
 use Rattle.standard.specs.Numbers.{Reader, escaped, magnitudeOf, signOf, signed, further, thenSign, numberIn, twoLast, twoFirst, twoOf, pairAfter, pairWord, pairOf, quadLast, quadFirst, quadWord, quadOf, quadTable, regionsOf, tableAt, Numbers, halted, got, prepend, thenPairs, pairs, thenQuads, quads, thenRest, numbersBy, numbersOf}
@@ -61,8 +61,8 @@ QuadFits l NoQuad = Unit {0}
 
 -- what fits all bits of a list fits what a reader at a place has left
 pub fits-window : {A : Type 0} (F : ℕ → A → Type 0) (f : List Bool → A) → ((b : List Bool) → F (length b) (f b))
-    → (s : List ℕ) (at e : ℕ) (x : A) → x ≡ f (window s at e) → F (e - at) x
-fits-window F f g s at e x h = rw (h, ← (window-length s at e)) (g (window s at e))
+    → (s : List ℕ) (at e : ℕ) (x : A) → x ≡ f (between s at e) → F (e - at) x
+fits-window F f g s at e x h = rw (h, ← (between-length s at e)) (g (between s at e))
 
 -- ---- one number
 pub escape-le : (t : ℕ) → escapeWidth t ≤ 13
@@ -116,16 +116,16 @@ unfolding magnitudeOf
 plain w v b h = passed (escaped w b) (ne-eqb v 15 h)
 
 module _ (w v : ℕ) (s : List ℕ) (at e : ℕ) (h : v ≡ 15) where
-  pub escape-cut : e - at < w → magnitudeOf w v (window s at e) ≡ Unsized
+  pub escape-cut : e - at < w → magnitudeOf w v (between s at e) ≡ Unsized
   unfolding magnitudeOf escaped
   escape-cut k =
       picked (Sized v 0) (eq-eqb v 15 h)
-      ∙ passed (Sized (15 + value (take w (window s at e))) w) (lt-leb w (length (window s at e)) (rw window-length k))
+      ∙ passed (Sized (15 + value (take w (between s at e))) w) (lt-leb w (length (between s at e)) (rw between-length k))
 
-  pub escape-whole : w ≤ e - at → magnitudeOf w v (window s at e) ≡ Sized (15 + fieldAt s at w) w
-  unfolding magnitudeOf escaped window fieldAt
+  pub escape-whole : w ≤ e - at → magnitudeOf w v (between s at e) ≡ Sized (15 + fieldAt s at w) w
+  unfolding magnitudeOf escaped between fieldAt
   escape-whole k =
-      picked (Sized v 0) (eq-eqb v 15 h) ∙ picked Unsized (le-leb w (length (window s at e)) (rw window-length k))
+      picked (Sized v 0) (eq-eqb v 15 h) ∙ picked Unsized (le-leb w (length (between s at e)) (rw between-length k))
       ∙ ap (λ (b : List Bool). Sized (15 + value b) w) (take-bits w s at (e - at) k)
 
 pub signed-zero : (v : ℕ) (b : List Bool) → v ≡ 0 → signed v b ≡ Whole (pos 0) 0
@@ -257,14 +257,14 @@ module _ (word : Reader) (t n : ℕ) where
 
 -- ---- a slot by place
 module _ (word : Reader) (rate : SampleRate) (r : SlotRecord) (s : List ℕ) (at e : ℕ) where
-  pub numbers-none : e ≤ at → numbersOf word rate r (window s at e) ≡ got [] []
+  pub numbers-none : e ≤ at → numbersOf word rate r (between s at e) ≡ got [] []
   unfolding numbersOf
-  numbers-none h = ap (numbersOf word rate r) (window-nil s at e h)
+  numbers-none h = ap (numbersOf word rate r) (between-nil s at e h)
 
-  pub numbers-some : at < e → numbersOf word rate r (window s at e) ≡ numbersBy word r (regionsOf rate r) (window s at e)
+  pub numbers-some : at < e → numbersOf word rate r (between s at e) ≡ numbersBy word r (regionsOf rate r) (between s at e)
   unfolding numbersOf
   numbers-some h =
-      let w = window-cons s at e h in
+      let w = between-cons s at e h in
       ap (numbersOf word rate r) w ∙ ap (numbersBy word r (regionsOf rate r)) (sym w)
 
 -- ---- how many numbers there are, and how large they are
@@ -336,15 +336,15 @@ module _ (word : Reader) (fits : ReaderFits word) where
       let e = g .count in
       gives-after (AtMost (4 * ((576 - 2 * n) / 4))) (AtMost 576) vs (g .sizes) (λ k l. omega arith) (quads word t ((576 - 2 * n) / 4) b) (quads-bounded t ((576 - 2 * n) / 4) b)
 
-  numbers-by : (r : SlotRecord) → r .pairs ≤ 288 → (g : Regions) (b : List Bool) → Gives (AtMost 576) (numbersBy word r g b)
+  numbers-by : (r : SlotRecord) → r .«big_values» ≤ 288 → (g : Regions) (b : List Bool) → Gives (AtMost 576) (numbersBy word r g b)
   unfolding numbersBy
   numbers-by r h NoRegions b = tt
   numbers-by r h (Split first second) b =
-      then-rest (quadTable (r .count1)) (r .pairs) h (pairs word (tableAt first second (r .tables)) 0 (r .pairs) b)
-      (pairs-bounded (tableAt first second (r .tables)) 0 (r .pairs) b)
+      then-rest (quadTable (r .«count1table_select»)) (r .«big_values») h (pairs word (tableAt first second (r .«table_select»)) 0 (r .«big_values») b)
+      (pairs-bounded (tableAt first second (r .«table_select»)) 0 (r .«big_values») b)
 
   -- a slot has at most 576 numbers, and none above 8,206 in magnitude
-  pub numbers-bounded : (rate : SampleRate) (r : SlotRecord) → r .pairs ≤ 288 → (b : List Bool) → Gives (AtMost 576) (numbersOf word rate r b)
+  pub numbers-bounded : (rate : SampleRate) (r : SlotRecord) → r .«big_values» ≤ 288 → (b : List Bool) → Gives (AtMost 576) (numbersOf word rate r b)
   unfolding numbersOf every
   numbers-bounded rate r h [] = record { count = omega arith; sizes = refl }
   numbers-bounded rate r h (a ∷ b) = numbers-by r h (regionsOf rate r) (a ∷ b)

@@ -14,6 +14,8 @@ use Rattle.standard.specs.Bits.{field, flag}
 use Rattle.standard.specs.declared.BlockType.{BlockType}
 use Rattle.standard.specs.declared.BlockType.the-variants.{Long, Start, Short, End}
 use Rattle.standard.specs.declared.SlotRecord.{SlotRecord}
+use Rattle.standard.specs.declared.Shape.{Shape}
+use Rattle.standard.specs.declared.Shape.the-variants.{AllLong, AllShort}
 use Rattle.standard.specs.declared.Refusal.the-variants.{TooManyPairs, ForbiddenBlock, MixedBlock}
 
 -- ---- what the parts of a record are
@@ -33,30 +35,30 @@ recordWidth false = 63
 unfoldable pub blockOf : ℕ → BlockType
 blockOf t = getD (Long ∷ Start ∷ Short ∷ End ∷ []) t Long
 
-abbrev pub isShort : BlockType → Bool
-isShort Long = false
-isShort Start = false
-isShort Short = true
-isShort End = false
-
 abbrev pub isLong : BlockType → Bool
 isLong Long = true
 isLong Start = false
 isLong Short = false
 isLong End = false
 
--- the region counts that a switched block is given
-abbrev pub region0Of : BlockType → ℕ
-region0Of Long = 7
-region0Of Start = 7
-region0Of Short = 8
-region0Of End = 7
+-- which bands a slot is of, by its block_type. Every rule that differs for short blocks is a clause for each shape
+abbrev pub shapeBy : BlockType → Shape
+shapeBy Long = AllLong
+shapeBy Start = AllLong
+shapeBy Short = AllShort
+shapeBy End = AllLong
 
-abbrev pub region1Of : BlockType → ℕ
-region1Of Long = 13
-region1Of Start = 13
-region1Of Short = 12
-region1Of End = 13
+abbrev pub shapeOf : SlotRecord → Shape
+shapeOf r = shapeBy (r .«block_type»)
+
+-- the region counts that a switched block is given
+abbrev pub region0Of : Shape → ℕ
+region0Of AllLong = 7
+region0Of AllShort = 8
+
+abbrev pub region1Of : Shape → ℕ
+region1Of AllLong = 13
+region1Of AllShort = 12
 
 -- read in MPEG-1 only; else it goes by scalefac_compress
 unfoldable pub preflagOf : Bool → List Bool → Bool
@@ -76,36 +78,36 @@ count1At false = 62
 unfoldable pub longOf : Bool → ℕ → List Bool → SlotRecord
 longOf mpeg1 c b =
     record {
-      length = field b 0 12;
-      pairs = field b 12 9;
-      gain = field b 21 8;
-      compress = field b 29 c;
-      block = Long;
-      gains = gainOf 0 ∷ gainOf 0 ∷ gainOf 0 ∷ [];
-      tables = field b (30 + c) 5 ∷ field b (35 + c) 5 ∷ field b (40 + c) 5 ∷ [];
-      region0 = field b (45 + c) 4;
-      region1 = field b (49 + c) 3;
+      «part2_3_length» = field b 0 12;
+      «big_values» = field b 12 9;
+      «global_gain» = field b 21 8;
+      «scalefac_compress» = field b 29 c;
+      «block_type» = Long;
+      «subblock_gain» = gainOf 0 ∷ gainOf 0 ∷ gainOf 0 ∷ [];
+      «table_select» = field b (30 + c) 5 ∷ field b (35 + c) 5 ∷ field b (40 + c) 5 ∷ [];
+      «region0_count» = field b (45 + c) 4;
+      «region1_count» = field b (49 + c) 3;
       preflag = preflagOf mpeg1 b;
-      scale = flag b (scaleAt mpeg1);
-      count1 = flag b (count1At mpeg1);
+      «scalefac_scale» = flag b (scaleAt mpeg1);
+      «count1table_select» = flag b (count1At mpeg1);
     }
 
 -- and where it is
 unfoldable pub switchedOf : Bool → ℕ → BlockType → List Bool → SlotRecord
 switchedOf mpeg1 c t b =
     record {
-      length = field b 0 12;
-      pairs = field b 12 9;
-      gain = field b 21 8;
-      compress = field b 29 c;
-      block = t;
-      gains = gainOf (field b (43 + c) 3) ∷ gainOf (field b (46 + c) 3) ∷ gainOf (field b (49 + c) 3) ∷ [];
-      tables = field b (33 + c) 5 ∷ field b (38 + c) 5 ∷ 0 ∷ [];
-      region0 = region0Of t;
-      region1 = region1Of t;
+      «part2_3_length» = field b 0 12;
+      «big_values» = field b 12 9;
+      «global_gain» = field b 21 8;
+      «scalefac_compress» = field b 29 c;
+      «block_type» = t;
+      «subblock_gain» = gainOf (field b (43 + c) 3) ∷ gainOf (field b (46 + c) 3) ∷ gainOf (field b (49 + c) 3) ∷ [];
+      «table_select» = field b (33 + c) 5 ∷ field b (38 + c) 5 ∷ 0 ∷ [];
+      «region0_count» = region0Of (shapeBy t);
+      «region1_count» = region1Of (shapeBy t);
       preflag = preflagOf mpeg1 b;
-      scale = flag b (scaleAt mpeg1);
-      count1 = flag b (count1At mpeg1);
+      «scalefac_scale» = flag b (scaleAt mpeg1);
+      «count1table_select» = flag b (count1At mpeg1);
     }
 
 -- big_values above 288; in a switched window block type 0, and then the mixed flag
@@ -124,18 +126,18 @@ recordOf mpeg1 b = recordIn mpeg1 (compressWidth mpeg1) b
 unfoldable pub absent : SlotRecord
 absent =
     record {
-      length = 0;
-      pairs = 0;
-      gain = 0;
-      compress = 0;
-      block = Long;
-      gains = gainOf 0 ∷ gainOf 0 ∷ gainOf 0 ∷ [];
-      tables = 0 ∷ 0 ∷ 0 ∷ [];
-      region0 = 0;
-      region1 = 0;
+      «part2_3_length» = 0;
+      «big_values» = 0;
+      «global_gain» = 0;
+      «scalefac_compress» = 0;
+      «block_type» = Long;
+      «subblock_gain» = gainOf 0 ∷ gainOf 0 ∷ gainOf 0 ∷ [];
+      «table_select» = 0 ∷ 0 ∷ 0 ∷ [];
+      «region0_count» = 0;
+      «region1_count» = 0;
       preflag = false;
-      scale = false;
-      count1 = false;
+      «scalefac_scale» = false;
+      «count1table_select» = false;
     }
 
 -- ---- which records bits read to
@@ -163,22 +165,22 @@ below m n = ltb n m
 
 unfoldable pub isLongBody : SlotRecord → Bool
 isLongBody r =
-    trio (below 32) (below 32) (below 32) (r .tables) && trio (gainBelow 1) (gainBelow 1) (gainBelow 1) (r .gains)
-    && (ltb (r .region0) 16 && ltb (r .region1) 8)
+    trio (below 32) (below 32) (below 32) (r .«table_select») && trio (gainBelow 1) (gainBelow 1) (gainBelow 1) (r .«subblock_gain»)
+    && (ltb (r .«region0_count») 16 && ltb (r .«region1_count») 8)
 
 unfoldable pub isSwitchedBody : SlotRecord → Bool
 isSwitchedBody r =
-    trio (below 32) (below 32) (below 1) (r .tables) && trio (gainBelow 8) (gainBelow 8) (gainBelow 8) (r .gains)
-    && (eqb (r .region0) (region0Of (r .block)) && eqb (r .region1) (region1Of (r .block)))
+    trio (below 32) (below 32) (below 1) (r .«table_select») && trio (gainBelow 8) (gainBelow 8) (gainBelow 8) (r .«subblock_gain»)
+    && (eqb (r .«region0_count») (region0Of (shapeOf r)) && eqb (r .«region1_count») (region1Of (shapeOf r)))
 
 unfoldable pub isPreflag : Bool → SlotRecord → Bool
 isPreflag true r = true
-isPreflag false r = Bool·beq (r .preflag) (leb 500 (r .compress))
+isPreflag false r = Bool·beq (r .preflag) (leb 500 (r .«scalefac_compress»))
 
 unfoldable pub isHead : Bool → SlotRecord → Bool
 isHead mpeg1 r =
-    ltb (r .length) 4096 && leb (r .pairs) 288 && (ltb (r .gain) 256 && ltb (r .compress) (2 ^ compressWidth mpeg1))
+    ltb (r .«part2_3_length») 4096 && leb (r .«big_values») 288 && (ltb (r .«global_gain») 256 && ltb (r .«scalefac_compress») (2 ^ compressWidth mpeg1))
     && isPreflag mpeg1 r
 
 unfoldable pub isRecord : Bool → SlotRecord → Bool
-isRecord mpeg1 r = isHead mpeg1 r && pick (isLong (r .block)) (isLongBody r) (isSwitchedBody r)
+isRecord mpeg1 r = isHead mpeg1 r && pick (isLong (r .«block_type»)) (isLongBody r) (isSwitchedBody r)

@@ -19,11 +19,12 @@ use Rattle.standard.specs.SameLaws.{beq-self, beq-is, float-self, float-
 use Rattle.standard.specs.Bits.{one, field, flag}
 use Rattle.standard.specs.BitsLaws.{one-le, one-is, field-lt}
 use Rattle.standard.specs.Written.{Part, _in-bits_, write, Fit, fit-append, Stand, stands-alone, width, length-write}
-use Rattle.standard.specs.Record.{gainOf, compressWidth, recordWidth, blockOf, isShort, isLong, region0Of, region1Of, preflagOf, scaleAt, count1At, longOf, switchedOf, recordIn, recordOf, gainsRow, gainNumber, gainBelow, trio, below, isLongBody, isSwitchedBody, isPreflag, isHead, isRecord}
+use Rattle.standard.specs.Record.{gainOf, compressWidth, recordWidth, blockOf, shapeBy, shapeOf, isLong, region0Of, region1Of, preflagOf, scaleAt, count1At, longOf, switchedOf, recordIn, recordOf, gainsRow, gainNumber, gainBelow, trio, below, isLongBody, isSwitchedBody, isPreflag, isHead, isRecord}
 use Rattle.standard.specs.declared.BlockType.{BlockType}
 use Rattle.standard.specs.declared.BlockType.the-variants.{Long, Start, Short, End}
 use Rattle.standard.specs.declared.Refusal.the-variants.{ForbiddenBlock, MixedBlock}
 use Rattle.standard.specs.declared.SlotRecord.{SlotRecord}
+use Rattle.standard.specs.declared.Shape.the-variants.{AllLong, AllShort}
 
 -- ---- the eight gains
 row-gain : (n : ℕ) → n < 8 → getD gainsRow n nan ≡ gainOf n
@@ -127,30 +128,30 @@ long-is End e = never e
 
 -- ---- the layout: what is written one after the other
 abbrev lastParts : Bool → SlotRecord → List Part
-lastParts true r = (one (r .preflag) in-bits 1) ∷ (one (r .scale) in-bits 1) ∷ (one (r .count1) in-bits 1) ∷ []
-lastParts false r = (one (r .scale) in-bits 1) ∷ (one (r .count1) in-bits 1) ∷ []
+lastParts true r = (one (r .preflag) in-bits 1) ∷ (one (r .«scalefac_scale») in-bits 1) ∷ (one (r .«count1table_select») in-bits 1) ∷ []
+lastParts false r = (one (r .«scalefac_scale») in-bits 1) ∷ (one (r .«count1table_select») in-bits 1) ∷ []
 
 abbrev longParts : SlotRecord → List Part
 longParts r =
-    (0 in-bits 1) ∷ (getD (r .tables) 0 0 in-bits 5) ∷ (getD (r .tables) 1 0 in-bits 5) ∷ (getD (r .tables) 2 0 in-bits 5)
-    ∷ (r .region0 in-bits 4) ∷ (r .region1 in-bits 3) ∷ []
+    (0 in-bits 1) ∷ (getD (r .«table_select») 0 0 in-bits 5) ∷ (getD (r .«table_select») 1 0 in-bits 5) ∷ (getD (r .«table_select») 2 0 in-bits 5)
+    ∷ (r .«region0_count» in-bits 4) ∷ (r .«region1_count» in-bits 3) ∷ []
 
 abbrev switchedParts : SlotRecord → List Part
 switchedParts r =
-    (1 in-bits 1) ∷ (typeOf (r .block) in-bits 2) ∷ (0 in-bits 1) ∷ (getD (r .tables) 0 0 in-bits 5) ∷ (getD (r .tables) 1 0 in-bits 5)
-    ∷ (gainNumber (getD (r .gains) 0 nan) in-bits 3) ∷ (gainNumber (getD (r .gains) 1 nan) in-bits 3) ∷ (gainNumber (getD (r .gains) 2 nan) in-bits 3) ∷ []
+    (1 in-bits 1) ∷ (typeOf (r .«block_type») in-bits 2) ∷ (0 in-bits 1) ∷ (getD (r .«table_select») 0 0 in-bits 5) ∷ (getD (r .«table_select») 1 0 in-bits 5)
+    ∷ (gainNumber (getD (r .«subblock_gain») 0 nan) in-bits 3) ∷ (gainNumber (getD (r .«subblock_gain») 1 nan) in-bits 3) ∷ (gainNumber (getD (r .«subblock_gain») 2 nan) in-bits 3) ∷ []
 
 abbrev partsBy : Bool → Bool → SlotRecord → List Part
 partsBy long mpeg1 r =
-    (r .length in-bits 12) ∷ (r .pairs in-bits 9) ∷ (r .gain in-bits 8) ∷ (r .compress in-bits compressWidth mpeg1)
+    (r .«part2_3_length» in-bits 12) ∷ (r .«big_values» in-bits 9) ∷ (r .«global_gain» in-bits 8) ∷ (r .«scalefac_compress» in-bits compressWidth mpeg1)
     ∷ (pick long (longParts r) (switchedParts r) ++ lastParts mpeg1 r)
 
 pub bitsOfRecord : Bool → SlotRecord → List Bool
-bitsOfRecord mpeg1 r = write (partsBy (isLong (r .block)) mpeg1 r)
+bitsOfRecord mpeg1 r = write (partsBy (isLong (r .«block_type»)) mpeg1 r)
 
 pub length-record : (mpeg1 : Bool) (r : SlotRecord) → length (bitsOfRecord mpeg1 r) ≡ recordWidth mpeg1
 unfolding bitsOfRecord pick
-length-record mpeg1 r = length-write (partsBy (isLong (r .block)) mpeg1 r) ∙ all-bits (isLong (r .block)) mpeg1
+length-record mpeg1 r = length-write (partsBy (isLong (r .«block_type»)) mpeg1 r) ∙ all-bits (isLong (r .«block_type»)) mpeg1
   where
     all-bits : (l m : Bool) → width (partsBy l m r) ≡ recordWidth m
     all-bits true true = refl
@@ -164,21 +165,21 @@ abbrev _and_ : Type 0 → Type 0 → Type 0
 A and B = A × B
 
 abbrev LastAt : Bool → SlotRecord → List Bool → Type 0
-LastAt true r b = (field b 56 1 ≡ one (r .preflag)) and (field b 57 1 ≡ one (r .scale)) and (field b 58 1 ≡ one (r .count1)) and Unit {0}
-LastAt false r b = (field b 61 1 ≡ one (r .scale)) and (field b 62 1 ≡ one (r .count1)) and Unit {0}
+LastAt true r b = (field b 56 1 ≡ one (r .preflag)) and (field b 57 1 ≡ one (r .«scalefac_scale»)) and (field b 58 1 ≡ one (r .«count1table_select»)) and Unit {0}
+LastAt false r b = (field b 61 1 ≡ one (r .«scalefac_scale»)) and (field b 62 1 ≡ one (r .«count1table_select»)) and Unit {0}
 
 abbrev BodyAt : Bool → ℕ → SlotRecord → List Bool → Type 0 → Type 0
 BodyAt true c r b Last =
-    (field b (29 + c) 1 ≡ 0) and (field b (30 + c) 5 ≡ getD (r .tables) 0 0) and (field b (35 + c) 5 ≡ getD (r .tables) 1 0)
-    and (field b (40 + c) 5 ≡ getD (r .tables) 2 0) and (field b (45 + c) 4 ≡ r .region0) and (field b (49 + c) 3 ≡ r .region1) and Last
+    (field b (29 + c) 1 ≡ 0) and (field b (30 + c) 5 ≡ getD (r .«table_select») 0 0) and (field b (35 + c) 5 ≡ getD (r .«table_select») 1 0)
+    and (field b (40 + c) 5 ≡ getD (r .«table_select») 2 0) and (field b (45 + c) 4 ≡ r .«region0_count») and (field b (49 + c) 3 ≡ r .«region1_count») and Last
 BodyAt false c r b Last =
-    (field b (29 + c) 1 ≡ 1) and (field b (30 + c) 2 ≡ typeOf (r .block)) and (field b (32 + c) 1 ≡ 0) and (field b (33 + c) 5 ≡ getD (r .tables) 0 0)
-    and (field b (38 + c) 5 ≡ getD (r .tables) 1 0) and (field b (43 + c) 3 ≡ gainNumber (getD (r .gains) 0 nan))
-    and (field b (46 + c) 3 ≡ gainNumber (getD (r .gains) 1 nan)) and (field b (49 + c) 3 ≡ gainNumber (getD (r .gains) 2 nan)) and Last
+    (field b (29 + c) 1 ≡ 1) and (field b (30 + c) 2 ≡ typeOf (r .«block_type»)) and (field b (32 + c) 1 ≡ 0) and (field b (33 + c) 5 ≡ getD (r .«table_select») 0 0)
+    and (field b (38 + c) 5 ≡ getD (r .«table_select») 1 0) and (field b (43 + c) 3 ≡ gainNumber (getD (r .«subblock_gain») 0 nan))
+    and (field b (46 + c) 3 ≡ gainNumber (getD (r .«subblock_gain») 1 nan)) and (field b (49 + c) 3 ≡ gainNumber (getD (r .«subblock_gain») 2 nan)) and Last
 
 abbrev RecordAt : Bool → Bool → SlotRecord → List Bool → Type 0
 RecordAt long m r b =
-    (field b 0 12 ≡ r .length) and (field b 12 9 ≡ r .pairs) and (field b 21 8 ≡ r .gain) and (field b 29 (compressWidth m) ≡ r .compress)
+    (field b 0 12 ≡ r .«part2_3_length») and (field b 12 9 ≡ r .«big_values») and (field b 21 8 ≡ r .«global_gain») and (field b 29 (compressWidth m) ≡ r .«scalefac_compress»)
     and BodyAt long (compressWidth m) r b (LastAt m r b)
 
 record-at : (long mpeg1 : Bool) (r : SlotRecord) (b : List Bool) → Stand b 0 (partsBy long mpeg1 r) → RecordAt long mpeg1 r b
@@ -189,7 +190,7 @@ record-at false true r b e = e
 record-at false false r b e = e
 
 -- ---- what the checks say
-head-is : (mpeg1 : Bool) (r : SlotRecord) → isHead mpeg1 r ≡ true → (r .length < 4096) × (r .pairs ≤ 288) × (r .gain < 256) × (r .compress < 2 ^ compressWidth mpeg1) × (isPreflag mpeg1 r ≡ true)
+head-is : (mpeg1 : Bool) (r : SlotRecord) → isHead mpeg1 r ≡ true → (r .«part2_3_length» < 4096) × (r .«big_values» ≤ 288) × (r .«global_gain» < 256) × (r .«scalefac_compress» < 2 ^ compressWidth mpeg1) × (isPreflag mpeg1 r ≡ true)
 unfolding isHead
 head-is mpeg1 r e =
     let p = both-of _ (isPreflag mpeg1 r) e in
@@ -205,10 +206,10 @@ flag-is b at x e = ap (λ (n : ℕ). eqb n 1) e ∙ one-is x
 one-lt : (x : Bool) → one x < 2
 one-lt x = omega (arith, one-le x)
 
-last-from : (mpeg1 : Bool) (r : SlotRecord) (b : List Bool) → isPreflag mpeg1 r ≡ true → field b 29 (compressWidth mpeg1) ≡ r .compress → LastAt mpeg1 r b → (preflagOf mpeg1 b ≡ r .preflag) × (flag b (scaleAt mpeg1) ≡ r .scale) × (flag b (count1At mpeg1) ≡ r .count1)
+last-from : (mpeg1 : Bool) (r : SlotRecord) (b : List Bool) → isPreflag mpeg1 r ≡ true → field b 29 (compressWidth mpeg1) ≡ r .«scalefac_compress» → LastAt mpeg1 r b → (preflagOf mpeg1 b ≡ r .preflag) × (flag b (scaleAt mpeg1) ≡ r .«scalefac_scale») × (flag b (count1At mpeg1) ≡ r .«count1table_select»)
 unfolding preflagOf isPreflag
-last-from true r b h c (p, (s, (t, u))) = (flag-is b 56 (r .preflag) p, flag-is b 57 (r .scale) s, flag-is b 58 (r .count1) t)
-last-from false r b h c (s, (t, u)) = (ap (leb 500) c ∙ sym (beq-is (r .preflag) _ h), flag-is b 61 (r .scale) s, flag-is b 62 (r .count1) t)
+last-from true r b h c (p, (s, (t, u))) = (flag-is b 56 (r .preflag) p, flag-is b 57 (r .«scalefac_scale») s, flag-is b 58 (r .«count1table_select») t)
+last-from false r b h c (s, (t, u)) = (ap (leb 500) c ∙ sym (beq-is (r .preflag) _ h), flag-is b 61 (r .«scalefac_scale») s, flag-is b 62 (r .«count1table_select») t)
 
 -- written, the parts fit their bits
 parts-fit : (long mpeg1 : Bool) (r : SlotRecord) → isHead mpeg1 r ≡ true → Fit (pick long (longParts r) (switchedParts r)) → Fit (partsBy long mpeg1 r)
@@ -217,22 +218,22 @@ parts-fit long mpeg1 r h f =
     (k .0, (omega arith, (k .2, (k .3, fit-append (pick long (longParts r) (switchedParts r)) (lastParts mpeg1 r) f (last mpeg1)))))
   where
     last : (m : Bool) → Fit (lastParts m r)
-    last true = (one-lt (r .preflag), (one-lt (r .scale), (one-lt (r .count1), tt)))
-    last false = (one-lt (r .scale), (one-lt (r .count1), tt))
+    last true = (one-lt (r .preflag), (one-lt (r .«scalefac_scale»), (one-lt (r .«count1table_select»), tt)))
+    last false = (one-lt (r .«scalefac_scale»), (one-lt (r .«count1table_select»), tt))
 
 -- ---- a record that is not switched
-module _ (r : SlotRecord) (t : isLong (r .block) ≡ true) (body : isLongBody r ≡ true) where
-  long-body : (trio (below 32) (below 32) (below 32) (r .tables) ≡ true) × (trio (gainBelow 1) (gainBelow 1) (gainBelow 1) (r .gains) ≡ true) × (r .region0 < 16) × (r .region1 < 8)
+module _ (r : SlotRecord) (t : isLong (r .«block_type») ≡ true) (body : isLongBody r ≡ true) where
+  long-body : (trio (below 32) (below 32) (below 32) (r .«table_select») ≡ true) × (trio (gainBelow 1) (gainBelow 1) (gainBelow 1) (r .«subblock_gain») ≡ true) × (r .«region0_count» < 16) × (r .«region1_count» < 8)
   unfolding isLongBody
   long-body =
-      let p = both-of (trio (below 32) (below 32) (below 32) (r .tables) && trio (gainBelow 1) (gainBelow 1) (gainBelow 1) (r .gains)) _ body in
-      let q = both-of (trio (below 32) (below 32) (below 32) (r .tables)) _ (p .0) in
-      let u = both-of (ltb (r .region0) 16) _ (p .1) in
+      let p = both-of (trio (below 32) (below 32) (below 32) (r .«table_select») && trio (gainBelow 1) (gainBelow 1) (gainBelow 1) (r .«subblock_gain»)) _ body in
+      let q = both-of (trio (below 32) (below 32) (below 32) (r .«table_select»)) _ (p .0) in
+      let u = both-of (ltb (r .«region0_count») 16) _ (p .1) in
       (q .0, q .1, ltb-true _ _ (u .0), ltb-true _ _ (u .1))
 
   long-fit : Fit (longParts r)
   long-fit =
-      let ts = trio-is (below 32) (below 32) (below 32) 0 (r .tables) (long-body .0) in
+      let ts = trio-is (below 32) (below 32) (below 32) 0 (r .«table_select») (long-body .0) in
       (omega arith, (ltb-true _ _ (ts .1), (ltb-true _ _ (ts .2), (ltb-true _ _ (ts .3), (long-body .2, (long-body .3, tt))))))
 
   long-from : (mpeg1 : Bool) (b : List Bool) → isHead mpeg1 r ≡ true → RecordAt true mpeg1 r b → recordOf mpeg1 b ≡ told r
@@ -240,42 +241,42 @@ module _ (r : SlotRecord) (t : isLong (r .block) ≡ true) (body : isLongBody r 
   long-from mpeg1 b h (length-at, (pairs-at, (gain-at, (compress-at, (window-at, (t0, (t1, (t2, (region0-at, (region1-at, last-at)))))))))) =
       let k = head-is mpeg1 r h in
       let last = last-from mpeg1 r b (k .4) compress-at last-at in
-      let gs = trio-is (gainBelow 1) (gainBelow 1) (gainBelow 1) nan (r .gains) (long-body .1) in
-      let ts = trio-is (below 32) (below 32) (below 32) 0 (r .tables) (long-body .0) in
+      let gs = trio-is (gainBelow 1) (gainBelow 1) (gainBelow 1) nan (r .«subblock_gain») (long-body .1) in
+      let ts = trio-is (below 32) (below 32) (below 32) 0 (r .«table_select») (long-body .0) in
       passed _ (le-ltb 288 (field b 12 9) (rw pairs-at (k .1)))
       ∙ (picked _ (ap not (flag-is b (29 + compressWidth mpeg1) false window-at))
       ∙ (λ j.
       told
       (record {
-        length = length-at j;
-        pairs = pairs-at j;
-        gain = gain-at j;
-        compress = compress-at j;
-        block = long-is (r .block) t j;
-        gains = three (no-gain-is _ (gs .1)) (no-gain-is _ (gs .2)) (no-gain-is _ (gs .3)) (gs .0) j;
-        tables = three t0 t1 t2 (ts .0) j;
-        region0 = region0-at j;
-        region1 = region1-at j;
+        «part2_3_length» = length-at j;
+        «big_values» = pairs-at j;
+        «global_gain» = gain-at j;
+        «scalefac_compress» = compress-at j;
+        «block_type» = long-is (r .«block_type») t j;
+        «subblock_gain» = three (no-gain-is _ (gs .1)) (no-gain-is _ (gs .2)) (no-gain-is _ (gs .3)) (gs .0) j;
+        «table_select» = three t0 t1 t2 (ts .0) j;
+        «region0_count» = region0-at j;
+        «region1_count» = region1-at j;
         preflag = last .0 j;
-        scale = last .1 j;
-        count1 = last .2 j;
+        «scalefac_scale» = last .1 j;
+        «count1table_select» = last .2 j;
       })))
 
 -- ---- and one that is
-module _ (r : SlotRecord) (t : isLong (r .block) ≡ false) (body : isSwitchedBody r ≡ true) where
-  switched-body : (trio (below 32) (below 32) (below 1) (r .tables) ≡ true) × (trio (gainBelow 8) (gainBelow 8) (gainBelow 8) (r .gains) ≡ true) × (r .region0 ≡ region0Of (r .block)) × (r .region1 ≡ region1Of (r .block))
+module _ (r : SlotRecord) (t : isLong (r .«block_type») ≡ false) (body : isSwitchedBody r ≡ true) where
+  switched-body : (trio (below 32) (below 32) (below 1) (r .«table_select») ≡ true) × (trio (gainBelow 8) (gainBelow 8) (gainBelow 8) (r .«subblock_gain») ≡ true) × (r .«region0_count» ≡ region0Of (shapeOf r)) × (r .«region1_count» ≡ region1Of (shapeOf r))
   unfolding isSwitchedBody
   switched-body =
-      let p = both-of (trio (below 32) (below 32) (below 1) (r .tables) && trio (gainBelow 8) (gainBelow 8) (gainBelow 8) (r .gains)) _ body in
-      let q = both-of (trio (below 32) (below 32) (below 1) (r .tables)) _ (p .0) in
-      let u = both-of (eqb (r .region0) (region0Of (r .block))) _ (p .1) in
+      let p = both-of (trio (below 32) (below 32) (below 1) (r .«table_select») && trio (gainBelow 8) (gainBelow 8) (gainBelow 8) (r .«subblock_gain»)) _ body in
+      let q = both-of (trio (below 32) (below 32) (below 1) (r .«table_select»)) _ (p .0) in
+      let u = both-of (eqb (r .«region0_count») (region0Of (shapeOf r))) _ (p .1) in
       (q .0, q .1, eqb-true _ _ (u .0), eqb-true _ _ (u .1))
 
   switched-fit : Fit (switchedParts r)
   switched-fit =
-      let ts = trio-is (below 32) (below 32) (below 1) 0 (r .tables) (switched-body .0) in
-      let gs = trio-is (gainBelow 8) (gainBelow 8) (gainBelow 8) nan (r .gains) (switched-body .1) in
-      (omega arith, (type-lt (r .block), (omega arith, (ltb-true _ _ (ts .1), (ltb-true _ _ (ts .2), (gain-back _ (gs .1) .1, (gain-back _ (gs .2) .1, (gain-back _ (gs .3) .1, tt))))))))
+      let ts = trio-is (below 32) (below 32) (below 1) 0 (r .«table_select») (switched-body .0) in
+      let gs = trio-is (gainBelow 8) (gainBelow 8) (gainBelow 8) nan (r .«subblock_gain») (switched-body .1) in
+      (omega arith, (type-lt (r .«block_type»), (omega arith, (ltb-true _ _ (ts .1), (ltb-true _ _ (ts .2), (gain-back _ (gs .1) .1, (gain-back _ (gs .2) .1, (gain-back _ (gs .3) .1, tt))))))))
 
   switched-from : (mpeg1 : Bool) (b : List Bool) → isHead mpeg1 r ≡ true → RecordAt false mpeg1 r b → recordOf mpeg1 b ≡ told r
   unfolding recordOf recordIn switchedOf
@@ -283,53 +284,53 @@ module _ (r : SlotRecord) (t : isLong (r .block) ≡ false) (body : isSwitchedBo
       let c = compressWidth mpeg1 in
       let k = head-is mpeg1 r h in
       let last = last-from mpeg1 r b (k .4) compress-at last-at in
-      let gs = trio-is (gainBelow 8) (gainBelow 8) (gainBelow 8) nan (r .gains) (switched-body .1) in
-      let ts = trio-is (below 32) (below 32) (below 1) 0 (r .tables) (switched-body .0) in
-      let block-at = ap blockOf type-at ∙ type-back (r .block) in
+      let gs = trio-is (gainBelow 8) (gainBelow 8) (gainBelow 8) nan (r .«subblock_gain») (switched-body .1) in
+      let ts = trio-is (below 32) (below 32) (below 1) 0 (r .«table_select») (switched-body .0) in
+      let block-at = ap blockOf type-at ∙ type-back (r .«block_type») in
       passed _ (le-ltb 288 (field b 12 9) (rw pairs-at (k .1)))
       ∙ (passed _ (ap not (flag-is b (29 + c) true window-at))
-      ∙ (passed _ (ap (λ (n : ℕ). eqb n 0) type-at ∙ type-switched (r .block) t)
+      ∙ (passed _ (ap (λ (n : ℕ). eqb n 0) type-at ∙ type-switched (r .«block_type») t)
       ∙ (passed _ (flag-is b (32 + c) false mixed-at)
       ∙ (λ j.
       told
       (record {
-        length = length-at j;
-        pairs = pairs-at j;
-        gain = gain-at j;
-        compress = compress-at j;
-        block = block-at j;
-        gains = three (ap gainOf g0 ∙ gain-back _ (gs .1) .0) (ap gainOf g1 ∙ gain-back _ (gs .2) .0) (ap gainOf g2 ∙ gain-back _ (gs .3) .0) (gs .0) j;
-        tables = three t0 t1 (no-table-is _ (ts .3)) (ts .0) j;
-        region0 = (ap region0Of block-at ∙ sym (switched-body .2)) j;
-        region1 = (ap region1Of block-at ∙ sym (switched-body .3)) j;
+        «part2_3_length» = length-at j;
+        «big_values» = pairs-at j;
+        «global_gain» = gain-at j;
+        «scalefac_compress» = compress-at j;
+        «block_type» = block-at j;
+        «subblock_gain» = three (ap gainOf g0 ∙ gain-back _ (gs .1) .0) (ap gainOf g1 ∙ gain-back _ (gs .2) .0) (ap gainOf g2 ∙ gain-back _ (gs .3) .0) (gs .0) j;
+        «table_select» = three t0 t1 (no-table-is _ (ts .3)) (ts .0) j;
+        «region0_count» = (ap (λ (u : BlockType). region0Of (shapeBy u)) block-at ∙ sym (switched-body .2)) j;
+        «region1_count» = (ap (λ (u : BlockType). region1Of (shapeBy u)) block-at ∙ sym (switched-body .3)) j;
         preflag = last .0 j;
-        scale = last .1 j;
-        count1 = last .2 j;
+        «scalefac_scale» = last .1 j;
+        «count1table_select» = last .2 j;
       })))))
 
 pub record-back : (mpeg1 : Bool) (r : SlotRecord) → isRecord mpeg1 r ≡ true → recordOf mpeg1 (bitsOfRecord mpeg1 r) ≡ told r
 unfolding isRecord bitsOfRecord pick
 record-back mpeg1 r e =
     let p = both-of (isHead mpeg1 r) _ e in
-    go (isLong (r .block)) refl (p .0) (p .1)
+    go (isLong (r .«block_type»)) refl (p .0) (p .1)
   where
-    go : (l : Bool) → isLong (r .block) ≡ l → isHead mpeg1 r ≡ true → pick l (isLongBody r) (isSwitchedBody r) ≡ true → recordOf mpeg1 (write (partsBy l mpeg1 r)) ≡ told r
+    go : (l : Bool) → isLong (r .«block_type») ≡ l → isHead mpeg1 r ≡ true → pick l (isLongBody r) (isSwitchedBody r) ≡ true → recordOf mpeg1 (write (partsBy l mpeg1 r)) ≡ told r
     go true t h b = long-from r t b mpeg1 _ h (record-at true mpeg1 r _ (stands-alone (partsBy true mpeg1 r) (parts-fit true mpeg1 r h (long-fit r t b))))
     go false t h b =
         switched-from r t b mpeg1 _ h (record-at false mpeg1 r _ (stands-alone (partsBy false mpeg1 r) (parts-fit false mpeg1 r h (switched-fit r t b))))
 
 -- ---- what is read passes the check
 module _ (mpeg1 : Bool) (b : List Bool) (pairs-le : field b 12 9 ≤ 288) where
-  preflag-known : (m : Bool) (r : SlotRecord) → r .compress ≡ field b 29 (compressWidth m) → r .preflag ≡ preflagOf m b → isPreflag m r ≡ true
+  preflag-known : (m : Bool) (r : SlotRecord) → r .«scalefac_compress» ≡ field b 29 (compressWidth m) → r .preflag ≡ preflagOf m b → isPreflag m r ≡ true
   unfolding isPreflag preflagOf
   preflag-known true r e f = refl
-  preflag-known false r e f = ap (λ (x : Bool). Bool·beq x (leb 500 (r .compress))) (f ∙ ap (leb 500) (sym e)) ∙ beq-self (leb 500 (r .compress))
+  preflag-known false r e f = ap (λ (x : Bool). Bool·beq x (leb 500 (r .«scalefac_compress»))) (f ∙ ap (leb 500) (sym e)) ∙ beq-self (leb 500 (r .«scalefac_compress»))
 
-  head-known : (r : SlotRecord) → r .length ≡ field b 0 12 → r .pairs ≡ field b 12 9 → r .gain ≡ field b 21 8 → r .compress ≡ field b 29 (compressWidth mpeg1) → r .preflag ≡ preflagOf mpeg1 b → isHead mpeg1 r ≡ true
+  head-known : (r : SlotRecord) → r .«part2_3_length» ≡ field b 0 12 → r .«big_values» ≡ field b 12 9 → r .«global_gain» ≡ field b 21 8 → r .«scalefac_compress» ≡ field b 29 (compressWidth mpeg1) → r .preflag ≡ preflagOf mpeg1 b → isHead mpeg1 r ≡ true
   unfolding isHead
   head-known r e f g h k =
-      both (both (both (lt-ltb (r .length) 4096 (rw e (field-lt b 0 12))) (le-leb (r .pairs) 288 (rw f pairs-le)))
-      (both (lt-ltb (r .gain) 256 (rw g (field-lt b 21 8))) (lt-ltb (r .compress) (2 ^ compressWidth mpeg1) (rw h (field-lt b 29 (compressWidth mpeg1))))))
+      both (both (both (lt-ltb (r .«part2_3_length») 4096 (rw e (field-lt b 0 12))) (le-leb (r .«big_values») 288 (rw f pairs-le)))
+      (both (lt-ltb (r .«global_gain») 256 (rw g (field-lt b 21 8))) (lt-ltb (r .«scalefac_compress») (2 ^ compressWidth mpeg1) (rw h (field-lt b 29 (compressWidth mpeg1))))))
       (preflag-known mpeg1 r h k)
 
   long-known : isRecord mpeg1 (longOf mpeg1 (compressWidth mpeg1) b) ≡ true
@@ -349,7 +350,7 @@ module _ (mpeg1 : Bool) (b : List Bool) (pairs-le : field b 12 9 ≤ 288) where
       (passed (isLongBody (switchedOf mpeg1 c t b)) h
       ∙ both (both (trio-all (below 32) (below 32) (below 1) _ _ _ (lt-ltb _ 32 (field-lt b (33 + c) 5)) (lt-ltb _ 32 (field-lt b (38 + c) 5)) refl)
       (trio-all (gainBelow 8) (gainBelow 8) (gainBelow 8) _ _ _ (gain-known _ (field-lt b (43 + c) 3)) (gain-known _ (field-lt b (46 + c) 3)) (gain-known _ (field-lt b (49 + c) 3))))
-      (both (eq-eqb (region0Of t) (region0Of t) refl) (eq-eqb (region1Of t) (region1Of t) refl)))
+      (both (eq-eqb (region0Of (shapeBy t)) (region0Of (shapeBy t)) refl) (eq-eqb (region1Of (shapeBy t)) (region1Of (shapeBy t)) refl)))
 
 block-switched : (n : ℕ) → n < 4 → (n ≡ 0 → ⊥) → isLong (blockOf n) ≡ false
 unfolding blockOf
@@ -381,16 +382,10 @@ record-read mpeg1 r = (
   λ w. record-known mpeg1 (w .0) r (w .2),
 )
 
--- ---- the regions of a switched window: 8 and 12 of a short block, else 7 and 13
-regions-by : (t : BlockType) → (region0Of t ≡ pick (isShort t) 8 7) × (region1Of t ≡ pick (isShort t) 12 13)
-unfolding pick
-regions-by Long = (refl, refl)
-regions-by Start = (refl, refl)
-regions-by Short = (refl, refl)
-regions-by End = (refl, refl)
-
-pub switched-regions : (mpeg1 : Bool) (r : SlotRecord) → isRecord mpeg1 r ≡ true → isLong (r .block) ≡ false → (r .region0 ≡ pick (isShort (r .block)) 8 7) × (r .region1 ≡ pick (isShort (r .block)) 12 13)
+-- ---- the regions of a switched window: 8 and 12 of short bands, 7 and 13 of long ones
+pub switched-regions : (mpeg1 : Bool) (r : SlotRecord) → isRecord mpeg1 r ≡ true → isLong (r .«block_type») ≡ false
+    → (shapeOf r ≡ AllShort → (r .«region0_count» ≡ 8) × (r .«region1_count» ≡ 12)) × (shapeOf r ≡ AllLong → (r .«region0_count» ≡ 7) × (r .«region1_count» ≡ 13))
 unfolding isRecord
 switched-regions mpeg1 r e t =
     let k = switched-body r t (sym (passed (isLongBody r) t) ∙ both-of (isHead mpeg1 r) _ e .1) in
-    (k .2 ∙ regions-by (r .block) .0, k .3 ∙ regions-by (r .block) .1)
+    (λ s. (k .2 ∙ ap region0Of s, k .3 ∙ ap region1Of s), λ s. (k .2 ∙ ap region0Of s, k .3 ∙ ap region1Of s))

@@ -6,12 +6,14 @@ use lib.Dec.{ltb}
 use lib.IntN.{ℤ, pos}
 use lib.ListN.{length, getD, take, drop}
 use Rattle.standard.specs.Told.{Told, told, pick, refused}
-use Rattle.standard.specs.Bands.{rowOf, shortRows}
+use Rattle.standard.specs.Bands.{rowOf, shortRows, shortStart}
 use Rattle.standard.specs.Header.{isMpeg1, isHeader}
-use Rattle.standard.specs.Record.{isShort, isRecord}
+use Rattle.standard.specs.Record.{shapeOf, isRecord}
 use Rattle.standard.specs.declared.SampleRate.{SampleRate}
 use Rattle.standard.specs.declared.FrameHeader.{FrameHeader}
 use Rattle.standard.specs.declared.SlotRecord.{SlotRecord}
+use Rattle.standard.specs.declared.Shape.{Shape}
+use Rattle.standard.specs.declared.Shape.the-variants.{AllLong, AllShort}
 use Rattle.standard.specs.declared.Refusal.the-variants.{UnfitMemory, MadeUpRecord}
 
 -- which number comes to each place of a band of width w from a place on: at 3 j + window the one that stood at window w + j.
@@ -25,18 +27,24 @@ unfoldable pub orderFrom : ℕ → List ℕ → List ℕ
 orderFrom b [] = []
 orderFrom b (c ∷ cs) = bandOrder (3 * b) (c - b) 0 (c - b) ++ orderFrom c cs
 
-unfoldable pub orderOf : SampleRate → List ℕ
-orderOf rate = orderFrom 0 (drop 1 (getD shortRows (rowOf rate) []))
+-- the bands from the k-th on
+unfoldable pub orderOf : SampleRate → ℕ → List ℕ
+orderOf rate k = orderFrom (shortStart rate k) (drop (k + 1) (getD shortRows (rowOf rate) []))
 
 unfoldable pub gathered : List ℕ → List ℤ → List ℤ
 gathered [] d = []
 gathered (i ∷ is) d = getD d i (pos 0) ∷ gathered is d
 
--- the first 576 numbers of a short slot in their new order; others stay
-unfoldable pub reordered : SampleRate → SlotRecord → List ℤ → List ℤ
-reordered rate r d = pick (isShort (r .block)) (gathered (orderOf rate) (take 576 d) ++ drop 576 d) d
+-- the first band that is a short one, of 13: there is none among long ones
+abbrev pub firstShort : Shape → ℕ
+firstShort AllLong = 13
+firstShort AllShort = 0
+
+-- the first 576 numbers of a slot, those of its short bands in their new order; others stay
+unfoldable pub reorderedFrom : SampleRate → ℕ → List ℤ → List ℤ
+reorderedFrom rate k d = take (3 * shortStart rate k) d ++ gathered (orderOf rate k) (take 576 d) ++ drop 576 d
 
 unfoldable pub reorderOf : FrameHeader → SlotRecord → List ℤ → Told (List ℤ)
 reorderOf h r d =
     pick (ltb (length d) 576) (refused UnfitMemory)
-    (pick (isHeader h && isRecord (isMpeg1 (h .version)) r) (told (reordered (h .rate) r d)) (refused MadeUpRecord))
+    (pick (isHeader h && isRecord (isMpeg1 (h .version)) r) (told (reorderedFrom (h .rate) (firstShort (shapeOf r)) d)) (refused MadeUpRecord))

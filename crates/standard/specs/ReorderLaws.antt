@@ -16,11 +16,13 @@ use Rattle.standard.specs.RowsLaws.{every, every-in, rows-long}
 use Rattle.standard.specs.Told.{told, refused}
 use Rattle.standard.specs.ToldLaws.{never, both-of, both, picked, passed}
 use Rattle.standard.specs.Header.{isMpeg1, isHeader}
-use Rattle.standard.specs.Record.{isShort, isRecord}
-use Rattle.standard.specs.Reorder.{bandOrder, orderFrom, orderOf, gathered, reordered, reorderOf}
+use Rattle.standard.specs.Record.{shapeOf, isRecord}
+use Rattle.standard.specs.Reorder.{bandOrder, orderFrom, orderOf, gathered, firstShort, reorderedFrom, reorderOf}
 use Rattle.standard.specs.declared.SampleRate.{SampleRate}
 use Rattle.standard.specs.declared.FrameHeader.{FrameHeader}
 use Rattle.standard.specs.declared.SlotRecord.{SlotRecord}
+use Rattle.standard.specs.declared.Shape.{Shape}
+use Rattle.standard.specs.declared.Shape.the-variants.{AllLong, AllShort}
 use Rattle.standard.specs.declared.Refusal.the-variants.{UnfitMemory, MadeUpRecord}
 
 gathered-append : (is js : List ℕ) (d : List ℤ) → gathered (is ++ js) d ≡ gathered is d ++ gathered js d
@@ -151,13 +153,16 @@ unfolding every orderLong orderFrom bandOrder shortRows
 all-long = refl
 
 module _ (r : SampleRate) where
-  pub length-order : (d : List ℤ) → length (gathered (orderOf r) d) ≡ 576
-  unfolding orderOf orderLong shortRows
-  length-order d = length-gathered (orderOf r) d ∙ eqb-true _ 576 (every-in orderLong [] shortRows all-long (rowOf r) (row-lt r))
-
   pub short-first : shortStart r 0 ≡ 0
   unfolding shortStart
   short-first = starts-at-0 (getD shortRows (rowOf r) []) (row-rising r)
+
+  pub length-order : (d : List ℤ) → length (gathered (orderOf r 0) d) ≡ 576
+  unfolding orderOf orderLong shortRows
+  length-order d =
+      length-gathered (orderOf r 0) d
+      ∙ ap (λ (b : ℕ). length (orderFrom b (drop 1 (getD shortRows (rowOf r) [])))) short-first
+      ∙ eqb-true _ 576 (every-in orderLong [] shortRows all-long (rowOf r) (row-lt r))
 
   pub short-rises : (k : ℕ) → shortStart r k ≤ shortStart r (k + 1)
   unfolding shortStart
@@ -177,17 +182,10 @@ module _ (r : SampleRate) where
       let p : length (getD shortRows (rowOf r) []) - 1 ≡ 13 = omega (arith, row-length) in
       ap (λ (k : ℕ). getD (getD shortRows (rowOf r) []) k 192) (sym p) ∙ lasts (getD shortRows (rowOf r) []) (row-rising r)
 
-  -- ---- the whole order, from the k-th band on
-  orderRest : ℕ → List ℤ → List ℤ
-  orderRest k d = gathered (orderFrom (shortStart r k) (drop (k + 1) (getD shortRows (rowOf r) []))) d
-
-  order-all : (d : List ℤ) → gathered (orderOf r) d ≡ orderRest 0 d
-  unfolding orderOf orderRest
-  order-all d = ap (λ (b : ℕ). gathered (orderFrom b (drop 1 (getD shortRows (rowOf r) []))) d) (sym short-first)
-
-  order-band : (k : ℕ) (d : List ℤ) → k < 13
-      → orderRest k d ≡ bandNumbers (3 * shortStart r k) (shortStart r (k + 1) - shortStart r k) d ++ orderRest (k + 1) d
-  unfolding orderRest orderFrom shortStart bandNumbers
+  -- ---- the order from the k-th band on: that band's, and then the order from the next one on
+  pub order-band : (k : ℕ) (d : List ℤ) → k < 13
+      → gathered (orderOf r k) d ≡ bandNumbers (3 * shortStart r k) (shortStart r (k + 1) - shortStart r k) d ++ gathered (orderOf r (k + 1)) d
+  unfolding orderOf orderFrom shortStart bandNumbers
   order-band k d h =
       let row = getD shortRows (rowOf r) [] in
       let b = getD row k 192 in
@@ -195,41 +193,15 @@ module _ (r : SampleRate) where
       ap (λ (l : List ℕ). gathered (orderFrom b l) d) (drop-cons row (k + 1) 192 (omega (arith, row-length)) ∙ ap (λ (n : ℕ). c ∷ drop n row) (sym (add-one (k + 1))))
       ∙ gathered-append (bandOrder (3 * b) (c - b) 0 (c - b)) (orderFrom c (drop (k + 1 + 1) row)) d
 
-  order-end : (d : List ℤ) → orderRest 13 d ≡ []
-  unfolding orderRest orderFrom gathered
-  order-end d = ap (λ (l : List ℕ). gathered (orderFrom (shortStart r 13) l) d) (drop-of-length-le (getD shortRows (rowOf r) []) {i = 14} (omega (arith, row-length)))
+  order-none : (d : List ℤ) → gathered (orderOf r 13) d ≡ []
+  unfolding orderOf orderFrom gathered
+  order-none d = ap (λ (l : List ℕ). gathered (orderFrom (shortStart r 13) l) d) (drop-of-length-le (getD shortRows (rowOf r) []) {i = 14} (omega (arith, row-length)))
 
-  -- what is left of the order where the k-th band starts
-  order-at : (k : ℕ) (d : List ℤ) → k ≤ 13 → drop (3 * shortStart r k) (gathered (orderOf r) d) ≡ orderRest k d
-  order-at zero d h = ap (λ (b : ℕ). drop (3 * b) (gathered (orderOf r) d)) short-first ∙ order-all d
-  order-at (suc k) d h =
-      let b = shortStart r k in
-      let c = shortStart r (k + 1) in
-      let e : 3 * b + 3 * (c - b) ≡ 3 * c = omega (arith, short-rises k) in
-      ap (λ (n : ℕ). drop (3 * shortStart r n) (gathered (orderOf r) d)) (sym (add-one k))
-      ∙ ap (λ (n : ℕ). drop n (gathered (orderOf r) d)) (sym e)
-      ∙ sym (drop-drop (3 * (c - b)) (3 * b) (gathered (orderOf r) d))
-      ∙ ap (drop (3 * (c - b))) (order-at k d (omega arith) ∙ order-band k d (omega arith))
-      ∙ drop-at (bandNumbers (3 * b) (c - b) d) (orderRest (k + 1) d) (3 * (c - b)) (length-band-numbers (3 * b) (c - b) d)
-      ∙ ap (λ (n : ℕ). orderRest n d) (add-one k)
-
-  -- the k-th band's numbers are the next of the order
-  pub order-next : (k : ℕ) (d : List ℤ) → k < 13
-      → take (3 * (shortStart r (k + 1) - shortStart r k)) (drop (3 * shortStart r k) (gathered (orderOf r) d))
-      ≡ bandNumbers (3 * shortStart r k) (shortStart r (k + 1) - shortStart r k) d
-  order-next k d h =
-      let b = shortStart r k in
-      let c = shortStart r (k + 1) in
-      ap (take (3 * (c - b))) (order-at k d (omega arith) ∙ order-band k d h)
-      ∙ take-at (bandNumbers (3 * b) (c - b) d) (orderRest (k + 1) d) (3 * (c - b)) (length-band-numbers (3 * b) (c - b) d)
-
-  -- it has 576 places
-  pub order-whole : (d : List ℤ) → take 576 (gathered (orderOf r) d) ≡ gathered (orderOf r) d
-  order-whole d =
-      let l = gathered (orderOf r) d in
+  -- past the last band all 576 are passed
+  pub order-end : (d old : List ℤ) → take (3 * shortStart r 13) d ++ gathered (orderOf r 13) old ++ drop 576 d ≡ d
+  order-end d old =
       let e : 3 * shortStart r 13 ≡ 576 = omega (arith, short-last) in
-      let none : drop 576 l ≡ [] = ap (λ (n : ℕ). drop n l) (sym e) ∙ order-at 13 d (omega arith) ∙ order-end d in
-      sym (append-nil (take 576 l)) ∙ ap (λ (x : List ℤ). take 576 l ++ x) (sym none) ∙ take-append-drop 576 l
+      (λ j. take (e j) d ++ order-none old j ++ drop 576 d) ∙ ap (λ (l : List ℤ). l ++ drop 576 d) (append-nil (take 576 d)) ∙ take-append-drop 576 d
 
 -- ---- what the call comes to
 module _ (h : FrameHeader) (r : SlotRecord) (d : List ℤ) where
@@ -242,15 +214,20 @@ module _ (h : FrameHeader) (r : SlotRecord) (d : List ℤ) where
     unfolding reorderOf
     made-up e = passed _ (le-ltb (length d) 576 k) ∙ passed _ e
 
-    accepted : isHeader h ≡ true → isRecord (isMpeg1 (h .version)) r ≡ true → reorderOf h r d ≡ told (reordered (h .rate) r d)
+    pub in-order : isHeader h ≡ true → isRecord (isMpeg1 (h .version)) r ≡ true → reorderOf h r d ≡ told (reorderedFrom (h .rate) (firstShort (shapeOf r)) d)
     unfolding reorderOf
-    accepted e f = passed _ (le-ltb (length d) 576 k) ∙ picked _ (both e f)
+    in-order e f = passed _ (le-ltb (length d) 576 k) ∙ picked _ (both e f)
 
-    pub short-in-order : isHeader h ≡ true → isRecord (isMpeg1 (h .version)) r ≡ true → isShort (r .block) ≡ true
-        → reorderOf h r d ≡ told (gathered (orderOf (h .rate)) (take 576 d) ++ drop 576 d)
-    unfolding reordered
-    short-in-order e f s = accepted e f ∙ ap told (picked _ s)
+pub first-le : (k : Shape) → firstShort k ≤ 13
+first-le AllLong = omega arith
+first-le AllShort = omega arith
 
-    pub others-stay : isHeader h ≡ true → isRecord (isMpeg1 (h .version)) r ≡ true → isShort (r .block) ≡ false → reorderOf h r d ≡ told d
-    unfolding reordered
-    others-stay e f s = accepted e f ∙ ap told (passed _ s)
+-- short bands alone: all 576 in their new order; long ones stay
+pub short-order : (rate : SampleRate) (d : List ℤ) → reorderedFrom rate (firstShort AllShort) d ≡ gathered (orderOf rate 0) (take 576 d) ++ drop 576 d
+unfolding reorderedFrom
+short-order rate d =
+    ap (λ (n : ℕ). take (3 * n) d ++ gathered (orderOf rate 0) (take 576 d) ++ drop 576 d) (short-first rate)
+
+pub long-order : (rate : SampleRate) (d : List ℤ) → reorderedFrom rate (firstShort AllLong) d ≡ d
+unfolding reorderedFrom
+long-order rate d = order-end rate d (take 576 d)

@@ -35,31 +35,31 @@ unfolding isAbsent noHead noBody noTail absent
 absent-is r e =
     let p = both-of _ (noTail r) e in
     let q = both-of (noHead r) (noBody r) (p .0) in
-    let u = both-of (eqb (r .length) 0 && eqb (r .pairs) 0) _ (q .0) in
-    let u1 = both-of (eqb (r .length) 0) _ (u .0) in
-    let u2 = both-of (eqb (r .gain) 0) _ (u .1) in
-    let v = both-of (isLong (r .block) && trio (gainBelow 1) (gainBelow 1) (gainBelow 1) (r .gains)) _ (q .1) in
-    let v1 = both-of (isLong (r .block)) _ (v .0) in
-    let w = both-of (eqb (r .region0) 0 && eqb (r .region1) 0) _ (p .1) in
-    let w1 = both-of (eqb (r .region0) 0) _ (w .0) in
-    let w2 = both-of (not (r .preflag) && not (r .scale)) _ (w .1) in
+    let u = both-of (eqb (r .«part2_3_length») 0 && eqb (r .«big_values») 0) _ (q .0) in
+    let u1 = both-of (eqb (r .«part2_3_length») 0) _ (u .0) in
+    let u2 = both-of (eqb (r .«global_gain») 0) _ (u .1) in
+    let v = both-of (isLong (r .«block_type») && trio (gainBelow 1) (gainBelow 1) (gainBelow 1) (r .«subblock_gain»)) _ (q .1) in
+    let v1 = both-of (isLong (r .«block_type»)) _ (v .0) in
+    let w = both-of (eqb (r .«region0_count») 0 && eqb (r .«region1_count») 0) _ (p .1) in
+    let w1 = both-of (eqb (r .«region0_count») 0) _ (w .0) in
+    let w2 = both-of (not (r .preflag) && not (r .«scalefac_scale»)) _ (w .1) in
     let w3 = both-of (not (r .preflag)) _ (w2 .0) in
-    let g = trio-is (gainBelow 1) (gainBelow 1) (gainBelow 1) nan (r .gains) (v1 .1) in
-    let t = trio-is (below 1) (below 1) (below 1) 0 (r .tables) (v .1) in
+    let g = trio-is (gainBelow 1) (gainBelow 1) (gainBelow 1) nan (r .«subblock_gain») (v1 .1) in
+    let t = trio-is (below 1) (below 1) (below 1) 0 (r .«table_select») (v .1) in
     λ j.
     record {
-      length = sym (eqb-true (r .length) 0 (u1 .0)) j;
-      pairs = sym (eqb-true (r .pairs) 0 (u1 .1)) j;
-      gain = sym (eqb-true (r .gain) 0 (u2 .0)) j;
-      compress = sym (eqb-true (r .compress) 0 (u2 .1)) j;
-      block = long-is (r .block) (v1 .0) j;
-      gains = three (no-gain-is _ (g .1)) (no-gain-is _ (g .2)) (no-gain-is _ (g .3)) (g .0) j;
-      tables = three (no-table-is _ (t .1)) (no-table-is _ (t .2)) (no-table-is _ (t .3)) (t .0) j;
-      region0 = sym (eqb-true (r .region0) 0 (w1 .0)) j;
-      region1 = sym (eqb-true (r .region1) 0 (w1 .1)) j;
+      «part2_3_length» = sym (eqb-true (r .«part2_3_length») 0 (u1 .0)) j;
+      «big_values» = sym (eqb-true (r .«big_values») 0 (u1 .1)) j;
+      «global_gain» = sym (eqb-true (r .«global_gain») 0 (u2 .0)) j;
+      «scalefac_compress» = sym (eqb-true (r .«scalefac_compress») 0 (u2 .1)) j;
+      «block_type» = long-is (r .«block_type») (v1 .0) j;
+      «subblock_gain» = three (no-gain-is _ (g .1)) (no-gain-is _ (g .2)) (no-gain-is _ (g .3)) (g .0) j;
+      «table_select» = three (no-table-is _ (t .1)) (no-table-is _ (t .2)) (no-table-is _ (t .3)) (t .0) j;
+      «region0_count» = sym (eqb-true (r .«region0_count») 0 (w1 .0)) j;
+      «region1_count» = sym (eqb-true (r .«region1_count») 0 (w1 .1)) j;
       preflag = sym (not-true (r .preflag) (w3 .0)) j;
-      scale = sym (not-true (r .scale) (w3 .1)) j;
-      count1 = sym (not-true (r .count1) (w2 .1)) j;
+      «scalefac_scale» = sym (not-true (r .«scalefac_scale») (w3 .1)) j;
+      «count1table_select» = sym (not-true (r .«count1table_select») (w2 .1)) j;
     }
 
 absent-known : isAbsent absent ≡ true
@@ -145,25 +145,25 @@ sharesIn mpeg1 two b = take (shareCount mpeg1 two) (drop (sharesAt mpeg1 two) b)
 -- ---- side information, written and read back
 module _ (mpeg1 two : Bool) (i : SideInfo) where
   abbrev sideParts : List Part
-  sideParts = (i .begin in-bits beginWidth mpeg1) ∷ (0 in-bits privateWidth mpeg1 two) ∷ []
+  sideParts = (i .«main_data_begin» in-bits beginWidth mpeg1) ∷ (0 in-bits privateWidth mpeg1 two) ∷ []
 
   sideRest : List Bool
-  sideRest = take (shareCount mpeg1 two) (i .shares) ++ slotsBits mpeg1 (slotCount mpeg1 two) (i .slots)
+  sideRest = take (shareCount mpeg1 two) (i .scfsi) ++ slotsBits mpeg1 (slotCount mpeg1 two) (i .slots)
 
   sideBits : List Bool
   sideBits = write sideParts ++ sideRest
 
   module _ (known : isSideBy mpeg1 two i ≡ true) where
-    side-is : (i .begin < 2 ^ beginWidth mpeg1) × (length (i .shares) ≡ 8) × (noShares (shareCount mpeg1 two) (i .shares) ≡ true) × (length (i .slots) ≡ 4) × (fitSlots mpeg1 (slotCount mpeg1 two) (i .slots) ≡ true)
+    side-is : (i .«main_data_begin» < 2 ^ beginWidth mpeg1) × (length (i .scfsi) ≡ 8) × (noShares (shareCount mpeg1 two) (i .scfsi) ≡ true) × (length (i .slots) ≡ 4) × (fitSlots mpeg1 (slotCount mpeg1 two) (i .slots) ≡ true)
     unfolding isSideBy areShares areSlots
     side-is =
         let p = both-of _ (areSlots mpeg1 (slotCount mpeg1 two) (i .slots)) known in
-        let q = both-of _ (areShares (shareCount mpeg1 two) (i .shares)) (p .0) in
-        let u = both-of (eqb (length (i .shares)) 8) _ (q .1) in
+        let q = both-of _ (areShares (shareCount mpeg1 two) (i .scfsi)) (p .0) in
+        let u = both-of (eqb (length (i .scfsi)) 8) _ (q .1) in
         let v = both-of (eqb (length (i .slots)) 4) _ (p .1) in
         (ltb-true _ _ (q .0), eqb-true _ _ (u .0), u .1, eqb-true _ _ (v .0), v .1)
 
-    begin-back : field sideBits 0 (beginWidth mpeg1) ≡ i .begin
+    begin-back : field sideBits 0 (beginWidth mpeg1) ≡ i .«main_data_begin»
     unfolding sideBits
     begin-back = stands sideParts sideRest (side-is .0, (pow-pos (privateWidth mpeg1 two), tt)) .0
 
@@ -174,24 +174,24 @@ module _ (mpeg1 two : Bool) (i : SideInfo) where
     unfolding sideBits
     rest-at = drop-at (write sideParts) sideRest (sharesAt mpeg1 two) parts-length
 
-    shares-length : length (take (shareCount mpeg1 two) (i .shares)) ≡ shareCount mpeg1 two
+    shares-length : length (take (shareCount mpeg1 two) (i .scfsi)) ≡ shareCount mpeg1 two
     shares-length = simp length-take (omega (arith, side-is .1, layout mpeg1 two .shares))
 
-    shares-at : sharesIn mpeg1 two sideBits ≡ take (shareCount mpeg1 two) (i .shares)
+    shares-at : sharesIn mpeg1 two sideBits ≡ take (shareCount mpeg1 two) (i .scfsi)
     unfolding sideRest
-    shares-at = ap (take (shareCount mpeg1 two)) rest-at ∙ take-at (take (shareCount mpeg1 two) (i .shares)) (slotsBits mpeg1 (slotCount mpeg1 two) (i .slots)) (shareCount mpeg1 two) shares-length
+    shares-at = ap (take (shareCount mpeg1 two)) rest-at ∙ take-at (take (shareCount mpeg1 two) (i .scfsi)) (slotsBits mpeg1 (slotCount mpeg1 two) (i .slots)) (shareCount mpeg1 two) shares-length
 
     slots-at : drop (sharesAt mpeg1 two + shareCount mpeg1 two) sideBits ≡ slotsBits mpeg1 (slotCount mpeg1 two) (i .slots)
     unfolding sideRest
     slots-at =
         sym (drop-drop (shareCount mpeg1 two) (sharesAt mpeg1 two) sideBits) ∙ ap (drop (shareCount mpeg1 two)) rest-at
-        ∙ drop-at (take (shareCount mpeg1 two) (i .shares)) (slotsBits mpeg1 (slotCount mpeg1 two) (i .slots)) (shareCount mpeg1 two) shares-length
+        ∙ drop-at (take (shareCount mpeg1 two) (i .scfsi)) (slotsBits mpeg1 (slotCount mpeg1 two) (i .slots)) (shareCount mpeg1 two) shares-length
 
     side-length : length sideBits ≡ 8 * sideBytes mpeg1 two
     unfolding sideBits sideRest
     side-length =
         length-append (write sideParts) sideRest
-        ∙ (λ j. parts-length j + (length-append (take (shareCount mpeg1 two) (i .shares)) (slotsBits mpeg1 (slotCount mpeg1 two) (i .slots)) ∙ (λ k. shares-length k + length-slots mpeg1 (slotCount mpeg1 two) (i .slots) (side-is .4) k)) j)
+        ∙ (λ j. parts-length j + (length-append (take (shareCount mpeg1 two) (i .scfsi)) (slotsBits mpeg1 (slotCount mpeg1 two) (i .slots)) ∙ (λ k. shares-length k + length-slots mpeg1 (slotCount mpeg1 two) (i .slots) (side-is .4) k)) j)
         ∙ layout mpeg1 two .whole
 
     side-back : sideIn mpeg1 two sideBits ≡ told i
@@ -199,12 +199,12 @@ module _ (mpeg1 two : Bool) (i : SideInfo) where
     side-back =
         ap (λ (l : List Bool). thenSide mpeg1 two sideBits (recordsOf mpeg1 (slotCount mpeg1 two) l)) slots-at
         ∙ ap (thenSide mpeg1 two sideBits) (slots-back mpeg1 (slotCount mpeg1 two) (i .slots) (side-is .4))
-        ∙ (λ j. told (record { begin = begin-back j; shares = shares-all j; slots = slots-all j }))
+        ∙ (λ j. told (record { «main_data_begin» = begin-back j; scfsi = shares-all j; slots = slots-all j }))
       where
-        shares-all : sharesIn mpeg1 two sideBits ++ replicate (8 - shareCount mpeg1 two) false ≡ i .shares
+        shares-all : sharesIn mpeg1 two sideBits ++ replicate (8 - shareCount mpeg1 two) false ≡ i .scfsi
         shares-all =
             (λ j. shares-at j ++ replicate (sym (side-is .1) j - shareCount mpeg1 two) false)
-            ∙ shares-whole (shareCount mpeg1 two) (i .shares) (omega (arith, side-is .1, layout mpeg1 two .shares)) (side-is .2)
+            ∙ shares-whole (shareCount mpeg1 two) (i .scfsi) (omega (arith, side-is .1, layout mpeg1 two .shares)) (side-is .2)
 
         slots-all : take (slotCount mpeg1 two) (i .slots) ++ replicate (4 - slotCount mpeg1 two) absent ≡ i .slots
         slots-all =
@@ -324,7 +324,7 @@ absent-record mpeg1 =
 
 -- side information with r in its first slot
 abbrev withRecord : SlotRecord → SideInfo
-withRecord r = record { begin = 0; shares = replicate 8 false; slots = r ∷ absent ∷ absent ∷ absent ∷ [] }
+withRecord r = record { «main_data_begin» = 0; scfsi = replicate 8 false; slots = r ∷ absent ∷ absent ∷ absent ∷ [] }
 
 with-known : (mpeg1 two : Bool) (r : SlotRecord) → isRecord mpeg1 r ≡ true → isSideBy mpeg1 two (withRecord r) ≡ true
 unfolding isSideBy areShares areSlots noShares fitSlots

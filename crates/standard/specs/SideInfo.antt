@@ -56,8 +56,8 @@ thenSide mpeg1 two b (refused k) = refused k
 thenSide mpeg1 two b (told rs) =
     told
     (record {
-      begin = field b 0 (beginWidth mpeg1);
-      shares = take (shareCount mpeg1 two) (drop (sharesAt mpeg1 two) b) ++ replicate (8 - shareCount mpeg1 two) false;
+      «main_data_begin» = field b 0 (beginWidth mpeg1);
+      scfsi = take (shareCount mpeg1 two) (drop (sharesAt mpeg1 two) b) ++ replicate (8 - shareCount mpeg1 two) false;
       slots = rs ++ replicate (4 - slotCount mpeg1 two) absent;
     })
 
@@ -78,17 +78,17 @@ sideOf h s =
 
 -- what a refusal's answer has in the place of side information
 unfoldable pub noSide : SideInfo
-noSide = record { begin = 0; shares = replicate 8 false; slots = replicate 4 absent }
+noSide = record { «main_data_begin» = 0; scfsi = replicate 8 false; slots = replicate 4 absent }
 
 -- ---- which side information bytes read to
 unfoldable pub noHead : SlotRecord → Bool
-noHead r = eqb (r .length) 0 && eqb (r .pairs) 0 && (eqb (r .gain) 0 && eqb (r .compress) 0)
+noHead r = eqb (r .«part2_3_length») 0 && eqb (r .«big_values») 0 && (eqb (r .«global_gain») 0 && eqb (r .«scalefac_compress») 0)
 
 unfoldable pub noBody : SlotRecord → Bool
-noBody r = isLong (r .block) && trio (gainBelow 1) (gainBelow 1) (gainBelow 1) (r .gains) && trio (below 1) (below 1) (below 1) (r .tables)
+noBody r = isLong (r .«block_type») && trio (gainBelow 1) (gainBelow 1) (gainBelow 1) (r .«subblock_gain») && trio (below 1) (below 1) (below 1) (r .«table_select»)
 
 unfoldable pub noTail : SlotRecord → Bool
-noTail r = (eqb (r .region0) 0 && eqb (r .region1) 0) && (not (r .preflag) && not (r .scale) && not (r .count1))
+noTail r = (eqb (r .«region0_count») 0 && eqb (r .«region1_count») 0) && (not (r .preflag) && not (r .«scalefac_scale») && not (r .«count1table_select»))
 
 -- the record of a slot that the frame lacks is 0 throughout
 unfoldable pub isAbsent : SlotRecord → Bool
@@ -115,7 +115,7 @@ areSlots mpeg1 n l = eqb (length l) 4 && fitSlots mpeg1 n l
 
 unfoldable pub isSideBy : Bool → Bool → SideInfo → Bool
 isSideBy mpeg1 two i =
-    ltb (i .begin) (2 ^ beginWidth mpeg1) && areShares (shareCount mpeg1 two) (i .shares) && areSlots mpeg1 (slotCount mpeg1 two) (i .slots)
+    ltb (i .«main_data_begin») (2 ^ beginWidth mpeg1) && areShares (shareCount mpeg1 two) (i .scfsi) && areSlots mpeg1 (slotCount mpeg1 two) (i .slots)
 
 unfoldable pub isSide : FrameHeader → SideInfo → Bool
 isSide h i = isSideBy (isMpeg1 (h .version)) (isTwo (h .channels)) i

@@ -21,7 +21,7 @@ module _ (h : FrameHeader) (i : SideInfo) (e : isSide h i ≡ true) where
       let mpeg1 = isMpeg1 (h .version) in
       let two = isTwo (h .channels) in
       both-of (eqb (length (i .slots)) 4) _
-      (both-of (ltb (i .begin) (2 ^ beginWidth mpeg1) && areShares (shareCount mpeg1 two) (i .shares)) (areSlots mpeg1 (slotCount mpeg1 two) (i .slots)) e .1)
+      (both-of (ltb (i .«main_data_begin») (2 ^ beginWidth mpeg1) && areShares (shareCount mpeg1 two) (i .scfsi)) (areSlots mpeg1 (slotCount mpeg1 two) (i .slots)) e .1)
 
   pub four-slots : length (i .slots) ≡ 4
   four-slots = eqb-true _ 4 (are-slots .0)
@@ -31,7 +31,7 @@ module _ (h : FrameHeader) (i : SideInfo) (e : isSide h i ≡ true) where
   slot-record n k = fit-at (isMpeg1 (h .version)) _ (i .slots) n (are-slots .1) k
 
 -- a record that bytes read to
-pub small-record : (mpeg1 : Bool) (r : SlotRecord) → isRecord mpeg1 r ≡ true → (r .length < 4096) × (r .pairs ≤ 288)
+pub small-record : (mpeg1 : Bool) (r : SlotRecord) → isRecord mpeg1 r ≡ true → (r .«part2_3_length» < 4096) × (r .«big_values» ≤ 288)
 unfolding isRecord isHead
 small-record mpeg1 r e =
     let head = both-of _ _ (both-of _ _ e .0) in

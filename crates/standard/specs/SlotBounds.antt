@@ -12,10 +12,10 @@ use Rattle.standard.specs.Told.{Told, toldOr}
 use Rattle.standard.specs.ToldLaws.{either-way}
 use Rattle.standard.specs.Codes.{wordOf}
 use Rattle.standard.specs.Header.{isMpeg1, isTwo, granulesIn, channelsIn, granules, channelCount, isHeader}
-use Rattle.standard.specs.Record.{isShort, absent}
+use Rattle.standard.specs.Record.{shapeOf, absent}
 use Rattle.standard.specs.SideInfo.{isSide}
 use Rattle.standard.specs.SideLaws.{slot-record, small-record}
-use Rattle.standard.specs.Factors.{planOf, planBits}
+use Rattle.standard.specs.Factors.{planOf, sourcesOf, planBits}
 use Rattle.standard.specs.Numbers.{Numbers, halted, got}
 use Rattle.standard.specs.NumbersLaws.{Bounded, AtMost, Gives, numbers-bounded, published-fits}
 use Rattle.standard.specs.Slots.{Outcome, stopped, holds, anyOf, withFactors, slotBy, slotOf, slotIn, thenSlots, slotsFrom, slotsOf, readSlots}
@@ -25,6 +25,7 @@ use Rattle.standard.specs.declared.FrameHeader.{FrameHeader}
 use Rattle.standard.specs.declared.SideInfo.{SideInfo}
 use Rattle.standard.specs.declared.SlotRecord.{SlotRecord}
 use Rattle.standard.specs.declared.Setting.{Setting}
+use Rattle.standard.specs.declared.Shape.{Shape}
 use Rattle.standard.specs.declared.Refusal.the-variants.{MissingBits}
 
 -- ---- what holds of each slot's own bits, and of a missing slot, holds of each slot of a frame
@@ -35,8 +36,8 @@ module _ (P : Outcome → Type 0) (Q : SlotRecord → Type 0) (missing : P (stop
   unfolding slotsFrom thenSlots slotIn
   each-from h i s [] n at done q = missing
   each-from h i s (r ∷ rs) zero at done q =
-      either-way P (leb (at + r .length) (8 * length s)) _ _ (λ e. own _ r _ _ _ (q 0 (omega arith))) (λ e. missing)
-  each-from h i s (r ∷ rs) (suc n) at done q = each-from h i s rs n (at + r .length) _ (λ k l. q (suc k) (omega arith))
+      either-way P (leb (at + r .«part2_3_length») (8 * length s)) _ _ (λ e. own _ r _ _ _ (q 0 (omega arith))) (λ e. missing)
+  each-from h i s (r ∷ rs) (suc n) at done q = each-from h i s rs n (at + r .«part2_3_length») _ (λ k l. q (suc k) (omega arith))
 
   each-slot : (h : FrameHeader) (i : SideInfo) (s : List ℕ) (n : ℕ) → ((k : ℕ) → k < length (records h i) → Q (getD (records h i) k absent)) → P (outcomeOf h i s n)
   unfolding outcomeOf slotsOf
@@ -54,17 +55,17 @@ abbrev pub Small : Outcome → Type 0
 Small (stopped r) = Unit {0}
 Small (holds long short vs) = Bounded (AtMost 576) vs
 
-factors-small : (short : Bool) (fs : List ℕ) (q : Numbers) → Gives (AtMost 576) q → Small (withFactors short fs q)
+factors-small : (mpeg1 : Bool) (k : Shape) (fs : List ℕ) (q : Numbers) → Gives (AtMost 576) q → Small (withFactors mpeg1 k fs q)
 unfolding withFactors
-factors-small short fs (halted r) g = tt
-factors-small short fs (got vs b) g = g
+factors-small mpeg1 k fs (halted r) g = tt
+factors-small mpeg1 k fs (got vs b) g = g
 
-own-small : (g : Setting) (r : SlotRecord) (lost : Bool) (old : List ℕ) (b : List Bool) → r .pairs ≤ 288 → Small (slotOf g r lost old b)
+own-small : (g : Setting) (r : SlotRecord) (lost : Bool) (old : List ℕ) (b : List Bool) → r .«big_values» ≤ 288 → Small (slotOf g r lost old b)
 unfolding slotOf slotBy
 own-small g r lost old b h =
-    either-way Small (ltb (r .length) (planBits (planOf (g .mpeg1) (g .intensity) (g .shares) r))) _ _ (λ e. tt)
+    either-way Small (ltb (r .«part2_3_length») (planBits (sourcesOf (planOf g r)))) _ _ (λ e. tt)
     (λ e. either-way Small (anyOf (g .shares) && lost) _ _ (λ f. tt)
-    (λ f. factors-small (isShort (r .block)) _ _ (numbers-bounded wordOf published-fits (g .rate) r h _)))
+    (λ f. factors-small (g .mpeg1) (shapeOf r) _ _ (numbers-bounded wordOf published-fits (g .rate) r h _)))
 
 -- ---- of side information that bytes read to
 getD-take : {A : Type 0} (k n : ℕ) (l : List A) (d : A) → k < length (take n l) → getD (take n l) k d ≡ getD l k d
@@ -73,7 +74,7 @@ getD-take k (suc n) [] d h = refl
 getD-take zero (suc n) (x ∷ l) d h = refl
 getD-take (suc k) (suc n) (x ∷ l) d h = getD-take k n l d (omega arith)
 
-lengths-le : (rs : List SlotRecord) (n : ℕ) → ((k : ℕ) → k < length rs → getD rs k absent .length < 4096) → startOf n rs ≤ 4095 * n
+lengths-le : (rs : List SlotRecord) (n : ℕ) → ((k : ℕ) → k < length rs → getD rs k absent .«part2_3_length» < 4096) → startOf n rs ≤ 4095 * n
 unfolding startOf
 lengths-le rs zero q = omega arith
 lengths-le [] (suc n) q = omega arith
@@ -103,7 +104,7 @@ read-room h i s d =
     ]
 
 module _ (h : FrameHeader) (i : SideInfo) (known : isSide h i ≡ true) where
-  record-small : (k : ℕ) → k < length (records h i) → (getD (records h i) k absent .length < 4096) × (getD (records h i) k absent .pairs ≤ 288)
+  record-small : (k : ℕ) → k < length (records h i) → (getD (records h i) k absent .«part2_3_length» < 4096) × (getD (records h i) k absent .«big_values» ≤ 288)
   record-small k l =
       let m : k < granules h * channelCount h = omega (arith, length-take (granules h * channelCount h) (i .slots), l) in
       rw (getD-take k (granules h * channelCount h) (i .slots) absent l) (small-record (isMpeg1 (h .version)) _ (slot-record h i known k m))
@@ -113,4 +114,4 @@ module _ (h : FrameHeader) (i : SideInfo) (known : isSide h i ≡ true) where
   start-le n l = omega (arith, lengths-le (records h i) n (λ k m. record-small k m .0))
 
   pub slot-small : (s : List ℕ) (n : ℕ) → Small (outcomeOf h i s n)
-  slot-small s n = each-slot Small (λ (r : SlotRecord). r .pairs ≤ 288) tt own-small h i s n (λ k l. record-small k l .1)
+  slot-small s n = each-slot Small (λ (r : SlotRecord). r .«big_values» ≤ 288) tt own-small h i s n (λ k l. record-small k l .1)

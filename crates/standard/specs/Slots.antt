@@ -12,11 +12,12 @@ use Rattle.standard.specs.Told.{Told, told, pick, toldOr, verdictOf, ref
 use Rattle.standard.specs.Bits.{bits}
 use Rattle.standard.specs.Codes.{wordOf}
 use Rattle.standard.specs.Header.{isMpeg1, isIntensity, isHeader, granules, channelCount}
-use Rattle.standard.specs.Record.{isShort}
+use Rattle.standard.specs.Record.{shapeOf}
 use Rattle.standard.specs.SideInfo.{isSide}
-use Rattle.standard.specs.Factors.{Source, planOf, planBits, factorsFrom, longFactors, shortFactors}
+use Rattle.standard.specs.Factors.{Source, mayShare, sourcesOf, planOf, planBits, factorsFrom, longFactors, shortFactors}
 use Rattle.standard.specs.Numbers.{Numbers, halted, got, numbersOf, padded}
 use Rattle.standard.specs.declared.Setting.{Setting}
+use Rattle.standard.specs.declared.Shape.{Shape}
 use Rattle.standard.specs.declared.SlotsAnswer.{SlotsAnswer}
 use Rattle.standard.specs.declared.FrameHeader.{FrameHeader}
 use Rattle.standard.specs.declared.SlotRecord.{SlotRecord}
@@ -44,27 +45,27 @@ unfoldable pub anyOf : List Bool → Bool
 anyOf [] = false
 anyOf (x ∷ xs) = x || anyOf xs
 
-unfoldable pub withFactors : Bool → List ℕ → Numbers → Outcome
-withFactors short fs (halted r) = stopped r
-withFactors short fs (got vs b) = holds (longFactors short fs) (shortFactors short fs) vs
+unfoldable pub withFactors : Bool → Shape → List ℕ → Numbers → Outcome
+withFactors mpeg1 k fs (halted r) = stopped r
+withFactors mpeg1 k fs (got vs b) = holds (longFactors mpeg1 k fs) (shortFactors mpeg1 k fs) vs
 
 -- by a plan of factors. `lost` says whether the channel's granule 0 slot was refused, and `old` has its long factors
 unfoldable pub slotBy : List Source → Setting → SlotRecord → Bool → List ℕ → List Bool → Outcome
 slotBy plan g r lost old b =
-    pick (ltb (r .length) (planBits plan)) (stopped FactorOverrun)
+    pick (ltb (r .«part2_3_length») (planBits plan)) (stopped FactorOverrun)
     (pick (anyOf (g .shares) && lost) (stopped LostShare)
-    (withFactors (isShort (r .block)) (factorsFrom plan old b) (numbersOf wordOf (g .rate) r (drop (planBits plan) b))))
+    (withFactors (g .mpeg1) (shapeOf r) (factorsFrom plan old b) (numbersOf wordOf (g .rate) r (drop (planBits plan) b))))
 
 -- from exactly its own bits
 unfoldable pub slotOf : Setting → SlotRecord → Bool → List ℕ → List Bool → Outcome
-slotOf g r lost old b = slotBy (planOf (g .mpeg1) (g .intensity) (g .shares) r) g r lost old b
+slotOf g r lost old b = slotBy (sourcesOf (planOf g r)) g r lost old b
 
 -- ---- the slots one after the other
--- the sharing bits in force for the n-th slot: its channel's in granule 1, and none in granule 0 or a short block
+-- the sharing bits in force for the n-th slot: its channel's in granule 1, and none in granule 0 or of short bands
 unfoldable pub sharesOf : FrameHeader → SideInfo → ℕ → SlotRecord → List Bool
 sharesOf h i n r =
-    pick (ltb n (channelCount h) || isShort (r .block)) (replicate 4 false)
-    (take 4 (drop (4 * (n - channelCount h)) (i .shares)))
+    pick (ltb n (channelCount h) || not (mayShare (shapeOf r))) (replicate 4 false)
+    (take 4 (drop (4 * (n - channelCount h)) (i .scfsi)))
 
 unfoldable pub settingOf : FrameHeader → SideInfo → ℕ → SlotRecord → Setting
 settingOf h i n r =
@@ -86,7 +87,7 @@ mateOf h done = pick (ltb (length done) (channelCount h)) alone (getD done (leng
 -- a slot that starts at a bit place of the main data s
 unfoldable pub slotIn : List ℕ → ℕ → Setting → SlotRecord → Bool → List ℕ → Outcome
 slotIn s at g r lost old =
-    pick (leb (at + r .length) (8 * length s)) (slotOf g r lost old (bits s at (r .length))) (stopped MissingBits)
+    pick (leb (at + r .«part2_3_length») (8 * length s)) (slotOf g r lost old (bits s at (r .«part2_3_length»))) (stopped MissingBits)
 
 unfoldable pub thenSlots : Outcome → (Outcome → List Outcome) → List Outcome
 thenSlots o rest = o ∷ rest o
@@ -96,7 +97,7 @@ unfoldable pub slotsFrom : FrameHeader → SideInfo → List ℕ → ℕ → Lis
 slotsFrom h i s at done [] = []
 slotsFrom h i s at done (r ∷ rs) =
     thenSlots (slotIn s at (settingOf h i (length done) r) r (isStopped (mateOf h done)) (longOf (mateOf h done)))
-    (λ (o : Outcome). slotsFrom h i s (at + r .length) (done ++ (o ∷ [])) rs)
+    (λ (o : Outcome). slotsFrom h i s (at + r .«part2_3_length») (done ++ (o ∷ [])) rs)
 
 unfoldable pub slotsOf : FrameHeader → SideInfo → List ℕ → List Outcome
 slotsOf h i s = slotsFrom h i s 0 [] (take (granules h * channelCount h) (i .slots))

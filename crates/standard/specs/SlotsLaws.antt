@@ -38,13 +38,13 @@ pub slot-present : (g : Setting) (r : SlotRecord) (lost : Bool) (old : List ℕ)
 slot-present = slot-allowed (isOther 20) not-missing
 
 -- ---- one slot at its place
-pub slotIn-missing : (s : List ℕ) (at : ℕ) (g : Setting) (r : SlotRecord) (lost : Bool) (old : List ℕ) → 8 * length s < at + r .length
+pub slotIn-missing : (s : List ℕ) (at : ℕ) (g : Setting) (r : SlotRecord) (lost : Bool) (old : List ℕ) → 8 * length s < at + r .«part2_3_length»
     → slotIn s at g r lost old ≡ stopped MissingBits
 unfolding slotIn
 slotIn-missing s at g r lost old h = passed _ (lt-leb _ _ h)
 
-pub slotIn-read : (s : List ℕ) (at : ℕ) (g : Setting) (r : SlotRecord) (lost : Bool) (old : List ℕ) → at + r .length ≤ 8 * length s
-    → slotIn s at g r lost old ≡ slotOf g r lost old (bits s at (r .length))
+pub slotIn-read : (s : List ℕ) (at : ℕ) (g : Setting) (r : SlotRecord) (lost : Bool) (old : List ℕ) → at + r .«part2_3_length» ≤ 8 * length s
+    → slotIn s at g r lost old ≡ slotOf g r lost old (bits s at (r .«part2_3_length»))
 unfolding slotIn
 slotIn-read s at g r lost old h = picked _ (le-leb _ _ h)
 
@@ -52,7 +52,7 @@ slotIn-read s at g r lost old h = picked _ (le-leb _ _ h)
 unfoldable pub startOf : ℕ → List SlotRecord → ℕ
 startOf zero rs = 0
 startOf (suc n) [] = 0
-startOf (suc n) (r ∷ rs) = r .length + startOf n rs
+startOf (suc n) (r ∷ rs) = r .«part2_3_length» + startOf n rs
 
 module _ (h : FrameHeader) (i : SideInfo) where
   -- ---- missing exactly when
@@ -61,22 +61,22 @@ module _ (h : FrameHeader) (i : SideInfo) where
   unfolding slotsFrom startOf thenSlots
   missing-from s [] n at done k = refl
   missing-from s (r ∷ rs) zero at done k = slotIn-missing s at _ r _ _ (omega arith)
-  missing-from s (r ∷ rs) (suc n) at done k = missing-from s rs n (at + r .length) _ (omega arith)
+  missing-from s (r ∷ rs) (suc n) at done k = missing-from s rs n (at + r .«part2_3_length») _ (omega arith)
 
   present-from : (s : List ℕ) (rs : List SlotRecord) (n at : ℕ) (done : List Outcome) → n < length rs → at + startOf (suc n) rs ≤ 8 * length s
       → allowed (isOther 20) (getD (slotsFrom h i s at done rs) n (stopped MissingBits)) ≡ true
   unfolding slotsFrom startOf thenSlots
   present-from s [] n at done l k = absurd (omega arith)
   present-from s (r ∷ rs) zero at done l k = ap (allowed (isOther 20)) (slotIn-read s at _ r _ _ (omega arith)) ∙ slot-present _ r _ _ _
-  present-from s (r ∷ rs) (suc n) at done l k = present-from s rs n (at + r .length) _ (omega arith) (omega arith)
+  present-from s (r ∷ rs) (suc n) at done l k = present-from s rs n (at + r .«part2_3_length») _ (omega arith) (omega arith)
 
   -- ---- bytes after
   module _ (xs ys : List ℕ) where
-    slotIn-append : (at : ℕ) (g : Setting) (r : SlotRecord) (lost : Bool) (old : List ℕ) → at + r .length ≤ 8 * length xs
+    slotIn-append : (at : ℕ) (g : Setting) (r : SlotRecord) (lost : Bool) (old : List ℕ) → at + r .«part2_3_length» ≤ 8 * length xs
         → slotIn (xs ++ ys) at g r lost old ≡ slotIn xs at g r lost old
     slotIn-append at g r lost old k =
-        let m : at + r .length ≤ 8 * length (xs ++ ys) = simp length-append (omega arith) in
-        slotIn-read (xs ++ ys) at g r lost old m ∙ ap (slotOf g r lost old) (bits-append xs ys (r .length) at k) ∙ sym (slotIn-read xs at g r lost old k)
+        let m : at + r .«part2_3_length» ≤ 8 * length (xs ++ ys) = simp length-append (omega arith) in
+        slotIn-read (xs ++ ys) at g r lost old m ∙ ap (slotOf g r lost old) (bits-append xs ys (r .«part2_3_length») at k) ∙ sym (slotIn-read xs at g r lost old k)
 
     same-from : (rs : List SlotRecord) (n at : ℕ) (done : List Outcome) → at + startOf (suc n) rs ≤ 8 * length xs
         → getD (slotsFrom h i (xs ++ ys) at done rs) n (stopped MissingBits) ≡ getD (slotsFrom h i xs at done rs) n (stopped MissingBits)
@@ -84,13 +84,13 @@ module _ (h : FrameHeader) (i : SideInfo) where
     same-from [] n at done k = refl
     same-from (r ∷ rs) zero at done k = slotIn-append at _ r _ _ (omega arith)
     same-from (r ∷ rs) (suc n) at done k =
-        same-from rs n (at + r .length) _ (omega arith)
-        ∙ ap (λ (o : Outcome). getD (slotsFrom h i xs (at + r .length) (done ++ (o ∷ [])) rs) n (stopped MissingBits)) (slotIn-append at _ r _ _ (omega arith))
+        same-from rs n (at + r .«part2_3_length») _ (omega arith)
+        ∙ ap (λ (o : Outcome). getD (slotsFrom h i xs (at + r .«part2_3_length») (done ++ (o ∷ [])) rs) n (stopped MissingBits)) (slotIn-append at _ r _ _ (omega arith))
 
   length-from : (s : List ℕ) (rs : List SlotRecord) (at : ℕ) (done : List Outcome) → length (slotsFrom h i s at done rs) ≡ length rs
   unfolding slotsFrom thenSlots
   length-from s [] at done = refl
-  length-from s (r ∷ rs) at done = ap suc (length-from s rs (at + r .length) _)
+  length-from s (r ∷ rs) at done = ap suc (length-from s rs (at + r .«part2_3_length») _)
 
   -- the records of the frame's slots
   abbrev pub records : List SlotRecord
@@ -245,7 +245,7 @@ same-numbers h i xs ys n d k l four found =
 -- ---- a slot's outcome is that of its own bits: two main datas that agree there, after granule 0 slots with the
 -- same factors, agree on it
 pub own-bits : (xs ys : List ℕ) (at bt : ℕ) (g : Setting) (r : SlotRecord) (lost : Bool) (old : List ℕ)
-    → at + r .length ≤ 8 * length xs → bt + r .length ≤ 8 * length ys → bits xs at (r .length) ≡ bits ys bt (r .length)
+    → at + r .«part2_3_length» ≤ 8 * length xs → bt + r .«part2_3_length» ≤ 8 * length ys → bits xs at (r .«part2_3_length») ≡ bits ys bt (r .«part2_3_length»)
     → slotIn xs at g r lost old ≡ slotIn ys bt g r lost old
 own-bits xs ys at bt g r lost old h k e = slotIn-read xs at g r lost old h ∙ ap (slotOf g r lost old) e ∙ sym (slotIn-read ys bt g r lost old k)
 

@@ -88,9 +88,9 @@ pub record Entire (s : List ℕ) (h : FrameHeader) (i : SideInfo) : Type 0 where
 
 pub data Way (s old : List ℕ) (p : Step) : Type 0 where
   refusedWay : (r : Refusal) → (r ≡ ShortReservoir → ⊥) → p ≡ noStep r → Way s old p
-  shortWay : (h : FrameHeader) (i : SideInfo) → Entire s h i → length old < i .begin → p ≡ shortStep h i (old ++ mainOf h s) → Way s old p
-  fullWay : (h : FrameHeader) (i : SideInfo) → Entire s h i → i .begin ≤ length old
-      → p ≡ fullStep h i (drop (length old - i .begin) old ++ mainOf h s) → Way s old p
+  shortWay : (h : FrameHeader) (i : SideInfo) → Entire s h i → length old < i .«main_data_begin» → p ≡ shortStep h i (old ++ mainOf h s) → Way s old p
+  fullWay : (h : FrameHeader) (i : SideInfo) → Entire s h i → i .«main_data_begin» ≤ length old
+      → p ≡ fullStep h i (drop (length old - i .«main_data_begin») old ++ mainOf h s) → Way s old p
 
 not-13 : {A : Type 0} (r : Refusal) (t : Told A) → t ≡ refused r → other t ≡ true → r ≡ ShortReservoir → ⊥
 unfolding other
@@ -101,9 +101,9 @@ module _ (s old : List ℕ) where
   unfolding turnOf withTurn adding reaching
   by-turn h i w =
       let e = frame-turn s old (w .header) (w .info) (w .there) in
-      elim (decLe (i .begin) (length old)) [
-        | yes l ↦ fullWay h i w l (e ∙ ap (withTurn h i) (passed _ (le-ltb (length old) (i .begin) l)))
-        | no l ↦ shortWay h i w (omega arith) (e ∙ ap (withTurn h i) (picked _ (lt-ltb (length old) (i .begin) (omega arith))))
+      elim (decLe (i .«main_data_begin») (length old)) [
+        | yes l ↦ fullWay h i w l (e ∙ ap (withTurn h i) (passed _ (le-ltb (length old) (i .«main_data_begin») l)))
+        | no l ↦ shortWay h i w (omega arith) (e ∙ ap (withTurn h i) (picked _ (lt-ltb (length old) (i .«main_data_begin») (omega arith))))
       ]
 
   by-side : (h : FrameHeader) → headerOf s ≡ told h → (t : Told SideInfo) → sideOf h s ≡ t → Way s old (frameOf s old)
@@ -132,7 +132,7 @@ way-slots : {s old : List ℕ} {p : Step} → Way s old p → length (p .slots) 
 unfolding noStep shortStep fullStep
 way-slots (refusedWay k n e) = rw e (omega arith)
 way-slots (shortWay h i w l e) = rw e (omega arith)
-way-slots {s} {old} (fullWay h i w l e) = rw e (omega (arith, length-slots h i (drop (length old - i .begin) old ++ mainOf h s), slots-le h i))
+way-slots {s} {old} (fullWay h i w l e) = rw e (omega (arith, length-slots h i (drop (length old - i .«main_data_begin») old ++ mainOf h s), slots-le h i))
 
 pub call-room : (s lent : List ℕ) (stated d : ℕ) → 576 * length (frameCall s lent stated d .slots) ≤ d
 unfolding noStep
@@ -144,16 +144,16 @@ call-room s lent stated d =
 
 -- ---- how long what is kept can be
 module _ {s : List ℕ} {h : FrameHeader} {i : SideInfo} (bytes : Bytes s) (w : Entire s h i) where
-  main-le : i .begin + length (mainOf h s) ≤ 1931
+  main-le : i .«main_data_begin» + length (mainOf h s) ≤ 1931
   main-le =
       let known = header-known s h bytes (w .header) in
       omega (arith, reservoir-le h i known (side-known h i s known (w .info)), length-take (mainSize h) (drop (headerSize h + sideSize h) s))
 
-  pub short-le : (old : List ℕ) → length old < i .begin → length (old ++ mainOf h s) ≤ 1931
+  pub short-le : (old : List ℕ) → length old < i .«main_data_begin» → length (old ++ mainOf h s) ≤ 1931
   short-le old l = omega (arith, main-le, length-append old (mainOf h s))
 
-  pub full-le : (old : List ℕ) → i .begin ≤ length old → length (drop (length old - i .begin) old ++ mainOf h s) ≤ 1931
-  full-le old l = omega (arith, main-le, length-append (drop (length old - i .begin) old) (mainOf h s), length-drop (length old - i .begin) old)
+  pub full-le : (old : List ℕ) → i .«main_data_begin» ≤ length old → length (drop (length old - i .«main_data_begin») old ++ mainOf h s) ≤ 1931
+  full-le old l = omega (arith, main-le, length-append (drop (length old - i .«main_data_begin») old) (mainOf h s), length-drop (length old - i .«main_data_begin») old)
 
 -- ---- of the lent bytes a step knows the stated first ones, and whether enough are lent
 pub stated-only : (s lent other : List ℕ) (stated d : ℕ) → take stated lent ≡ take stated other → ltb (length lent) 4096 ≡ ltb (length other) 4096

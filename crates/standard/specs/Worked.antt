@@ -5,7 +5,7 @@ use Prim.Native.Nat.{ℕ, _*_}
 use lib.IntN.{ℤ, pos, negsuc}
 use lib.ListN.{length, take, replicate, set}
 use Rattle.standard.specs.Told.{Told, refused, told, pick, toldOr}
-use Rattle.standard.specs.Bits.{bitAt, bits, window, valueFrom, value, field, flag, fieldAt}
+use Rattle.standard.specs.Bits.{bitAt, bits, between, valueFrom, value, field, flag, fieldAt}
 use Rattle.standard.specs.Rows.{member, later, place}
 use Rattle.standard.specs.Codes.{lowBits, pair, quad, starts, first, begun, decode, silent, table1, tableB, codes, published, wordOf, escapes, escapeWidth}
 use Rattle.standard.specs.Bands.{longRows, shortRows, longStart, shortStart}
@@ -13,8 +13,8 @@ use Rattle.standard.specs.Lengths.{slenRows, slen1, slen2, rangeIn, lowR
 use Rattle.standard.specs.Header.{bitrates, rates, versionOf, emphasisOf, channelsOf, fields, lastBytes, secondByte, headerOf, sameBitrate, sameRate, isHeader, headerSize, dataSize, frameLength, sideSize, mainSize, granules, channelCount, noHeader}
 use Rattle.standard.specs.Record.{blockOf, preflagOf, longOf, switchedOf, recordIn, recordOf, absent}
 use Rattle.standard.specs.SideInfo.{thenRecords, recordsOf, thenSide, sideIn, sideFrom, sideOf, noSide}
-use Rattle.standard.specs.Factors.{longPlan, shortPlan, lowPlan, planOf, planBits, factorsFrom, longFactors, shortFactors}
-use Rattle.standard.specs.Numbers.{escaped, magnitudeOf, signOf, signed, further, thenSign, numberIn, twoLast, twoFirst, twoOf, pairAfter, pairWord, pairOf, quadLast, quadFirst, quadWord, quadOf, regionsOf, tableAt, prepend, thenPairs, pairs, thenQuads, quads, thenRest, numbersBy, numbersOf, padded}
+use Rattle.standard.specs.Factors.{planBy, planOf, group, groupsFrom, planBits, factorsFrom, longFactors, shortFactors}
+use Rattle.standard.specs.Numbers.{escaped, magnitudeOf, signOf, signed, further, thenSign, numberIn, twoLast, twoFirst, twoOf, pairAfter, pairWord, pairOf, quadLast, quadFirst, quadWord, quadOf, regionsBy, tableAt, prepend, thenPairs, pairs, thenQuads, quads, thenRest, numbersBy, numbersOf, padded}
 use Rattle.standard.specs.Slots.{Outcome, stopped, holds, isStopped, longOf as longFactorsOf, anyOf, withFactors, slotBy, slotOf, sharesOf, settingOf, alone, mateOf, slotIn, thenSlots, slotsFrom, slotsOf}
 use Rattle.standard.specs.Reservoir.{Kept, untouched, keeping, reaching, adding, turnOf}
 use Rattle.standard.specs.Frame.{Step, noStep, shortStep, fullStep, withTurn, withSide, withHeader, frameOf}
@@ -54,7 +54,7 @@ reachingBack n = set frameF 4 n
 
 -- ---- a frame's step from its bytes and the reservoir's, and its parts
 unfoldable pub step : List ℕ → List ℕ → Step
-unfolding pick bitAt bits window valueFrom value field flag fieldAt member later place lowBits pair quad starts first begun decode silent table1 tableB codes published wordOf escapes escapeWidth longRows shortRows longStart shortStart slenRows slen1 slen2 rangeIn lowRange ordinaryLengths intensityLengths lowLengths lowRows lowCounts bitrates rates versionOf emphasisOf channelsOf fields lastBytes secondByte headerOf sameBitrate sameRate isHeader headerSize dataSize frameLength sideSize mainSize granules channelCount noHeader blockOf preflagOf longOf switchedOf recordIn recordOf absent thenRecords recordsOf thenSide sideIn sideFrom sideOf noSide longPlan shortPlan lowPlan planOf planBits factorsFrom longFactors shortFactors escaped magnitudeOf signOf signed further thenSign numberIn twoLast twoFirst twoOf pairAfter pairWord pairOf quadLast quadFirst quadWord quadOf regionsOf tableAt prepend thenPairs pairs thenQuads quads thenRest numbersBy numbersOf padded isStopped longFactorsOf anyOf withFactors slotBy slotOf sharesOf settingOf alone mateOf slotIn thenSlots slotsFrom slotsOf reaching adding turnOf noStep shortStep fullStep withTurn withSide withHeader frameOf
+unfolding pick bitAt bits between valueFrom value field flag fieldAt member later place lowBits pair quad starts first begun decode silent table1 tableB codes published wordOf escapes escapeWidth longRows shortRows longStart shortStart slenRows slen1 slen2 rangeIn lowRange ordinaryLengths intensityLengths lowLengths lowRows lowCounts bitrates rates versionOf emphasisOf channelsOf fields lastBytes secondByte headerOf sameBitrate sameRate isHeader headerSize dataSize frameLength sideSize mainSize granules channelCount noHeader blockOf preflagOf longOf switchedOf recordIn recordOf absent thenRecords recordsOf thenSide sideIn sideFrom sideOf noSide planBy planOf group groupsFrom planBits factorsFrom longFactors shortFactors escaped magnitudeOf signOf signed further thenSign numberIn twoLast twoFirst twoOf pairAfter pairWord pairOf quadLast quadFirst quadWord quadOf regionsBy tableAt prepend thenPairs pairs thenQuads quads thenRest numbersBy numbersOf padded isStopped longFactorsOf anyOf withFactors slotBy slotOf sharesOf settingOf alone mateOf slotIn thenSlots slotsFrom slotsOf reaching adding turnOf noStep shortStep fullStep withTurn withSide withHeader frameOf
 step s old = frameOf s old
 
 unfoldable pub verdict : List ℕ → Verdict
@@ -113,8 +113,8 @@ unfolding step
 slotsBy s main = slotsOf (step s [] .header) (step s [] .info) main
 
 unfoldable pub ordered : SampleRate → List ℤ → List ℤ
-unfolding gathered orderOf orderFrom bandOrder shortRows
-ordered rate d = gathered (orderOf rate) d
+unfolding gathered orderOf orderFrom bandOrder shortRows shortStart
+ordered rate d = gathered (orderOf rate 0) d
 
 -- a row is so
 abbrev pub IsSo : Row → Type 0

@@ -74,27 +74,40 @@ pub enum BlockType {
     End,
 }
 
-// The side information of one slot: one granule of one channel. Beside each field stands the standard's name.
+// Which bands a slot's factors and numbers are of: long ones, or short ones in three windows.
+pub enum Shape {
+    AllLong,
+    AllShort,
+}
+
+// How a slot's bits hold its factors: four groups in turn, of so many factors, of so many bits each, or shared with granule 0.
+pub struct Plan {
+    pub counts: [u16; 4],
+    pub lengths: [u16; 4],
+    pub shares: [bool; 4],
+}
+
+// The side information of one slot: one granule of one channel.
 pub struct SlotRecord {
-    pub length: u16, // part2_3_length
-    pub pairs: u16, // big_values
-    pub gain: u8, // global_gain
-    pub compress: u16, // scalefac_compress
-    pub block: BlockType, // window_switching_flag, block_type
-    pub gains: [f32; 3], // subblock_gain
-    pub tables: [u8; 3], // table_select
-    pub region0: u8, // region0_count
-    pub region1: u8, // region1_count
-    pub preflag: bool, // preflag
-    pub scale: bool, // scalefac_scale
-    pub count1: bool, // count1table_select: table B
+    pub part2_3_length: u16,
+    pub big_values: u16,
+    pub global_gain: u8,
+    pub scalefac_compress: u16,
+    pub block_type: BlockType, // Long where window_switching_flag is not set
+    pub subblock_gain: [f32; 3],
+    pub table_select: [u8; 3],
+    pub region0_count: u8,
+    pub region1_count: u8,
+    pub preflag: bool,
+    pub scalefac_scale: bool,
+    pub count1table_select: bool, // table B
 }
 
 // A frame's side information. The n-th slot is of granule n / channels, channel n % channels; the sharing bit (scfsi) of a
 // channel's i-th group of factors is the one at 4 x channel + i.
 pub struct SideInfo {
-    pub begin: u16, // main_data_begin
-    pub shares: [bool; 8],
+    pub main_data_begin: u16,
+    pub scfsi: [bool; 8],
     pub slots: [SlotRecord; 4],
 }
 

@@ -8,7 +8,7 @@ use Rattle.cases.proofs.walk.Statement.{statement}
 use Rattle.cases.proofs.walk.Tie as tie
 use Rattle.cases.proofs.walk.Reads as reads
 use Rattle.cases.proofs.walk.Lts as lts
-use Rattle.card.proofs.unread.Reads as unread-reads
+use Rattle.input.proofs.unread.Reads as unread-reads
 use Rattle.cases.proofs.run_line.Reads as run-line-reads
 use Rattle.cases.proofs.words.line_end.Reads as line-end-reads
 

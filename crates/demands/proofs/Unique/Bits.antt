@@ -1,5 +1,5 @@
--- What no two readers may disagree on, for every public function of `bits`: one answer for the same arguments.
-use Rattle.demands.proofs.Call.{alike, OneAnswer}
+-- What no two readers may disagree on, for every public function of `bits`. Printed by scripts/catalogue.
+use Rattle.demands.proofs.Call.{OneAnswer, alike}
 use Rattle.bits.proofs.bit.Reads as bit
 use Rattle.bits.proofs.bit.Kinds as bit-kinds
 use Rattle.bits.proofs.field.Reads as field

@@ -1,5 +1,5 @@
--- What no two readers may disagree on, for every public function of `fields`: one answer for the same arguments.
-use Rattle.demands.proofs.Call.{alike, OneAnswer}
+-- What no two readers may disagree on, for every public function of `fields`. Printed by scripts/catalogue.
+use Rattle.demands.proofs.Call.{OneAnswer, alike}
 use Rattle.fields.proofs.header_values.Reads as header-values
 use Rattle.fields.proofs.header_values.Kinds as header-values-kinds
 use Rattle.fields.proofs.side_values.Reads as side-values

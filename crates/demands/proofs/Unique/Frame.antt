@@ -1,10 +1,10 @@
--- What no two readers may disagree on, for every public function of `frame`: one answer, one state of the lent reservoir bytes and of the lent numbers.
-use mathlib.Core.List.{List}
+-- What no two readers may disagree on, for every public function of `frame`. Printed by scripts/catalogue.
 use Prim.Native.Nat.{ℕ}
-use lib.IntN.{ℤ}
-use denote.Ref.{now}
-use Rattle.standard.specs.FrameLaws.{one-frame}
 use Rattle.demands.proofs.Call.{OneState}
+use Rattle.standard.specs.FrameLaws.{one-frame}
+use denote.Ref.{now}
+use lib.IntN.{ℤ}
+use mathlib.Core.List.{List}
 use Rattle.frame.proofs.process_frame.Reads as process-frame
 use Rattle.frame.proofs.process_frame.Kinds as process-frame-kinds
 

@@ -1,9 +1,9 @@
--- What no two readers may disagree on, for every public function of `front_end`: one answer, and one state of all that is lent.
-use mathlib.Core.List.{List}
+-- What no two readers may disagree on, for every public function of `front_end`. Printed by scripts/catalogue.
 use Prim.Native.Nat.{ℕ}
-use lib.IntN.{ℤ}
+use Rattle.demands.proofs.Call.{OneAnswer, OneState, alike}
 use denote.Ref.{now}
-use Rattle.demands.proofs.Call.{alike, OneState, OneAnswer}
+use lib.IntN.{ℤ}
+use mathlib.Core.List.{List}
 use Rattle.front_end.proofs.front_end_frame.Reads as front-end-frame
 use Rattle.front_end.proofs.front_end_frame.Kinds as front-end-frame-kinds
 use Rattle.front_end.proofs.front_end_slots.Reads as front-end-slots

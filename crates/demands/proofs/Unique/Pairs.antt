@@ -1,5 +1,5 @@
--- What no two readers may disagree on, for every public function of `pairs`: one answer for the same arguments.
-use Rattle.demands.proofs.Call.{alike, OneAnswer}
+-- What no two readers may disagree on, for every public function of `pairs`. Printed by scripts/catalogue.
+use Rattle.demands.proofs.Call.{OneAnswer, alike}
 use Rattle.pairs.proofs.pair.Reads as pair
 use Rattle.pairs.proofs.pair.Kinds as pair-kinds
 use Rattle.pairs.proofs.quad.Reads as quad

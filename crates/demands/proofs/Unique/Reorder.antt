@@ -1,7 +1,7 @@
--- What no two readers may disagree on, for every public function of `reorder`: one answer and one state of the lent numbers.
-use denote.Ref.{now}
-use Rattle.standard.specs.RefusalsLaws.{one-answer}
+-- What no two readers may disagree on, for every public function of `reorder`. Printed by scripts/catalogue.
 use Rattle.demands.proofs.Call.{OneState}
+use Rattle.standard.specs.RefusalsLaws.{one-answer}
+use denote.Ref.{now}
 use Rattle.reorder.proofs.reorder.Reads as reorder
 use Rattle.reorder.proofs.reorder.Kinds as reorder-kinds
 

@@ -1,7 +1,7 @@
--- What no two readers may disagree on, for every public function of `reservoir`: one answer and one state of the lent bytes.
-use denote.Ref.{now}
+-- What no two readers may disagree on, for every public function of `reservoir`. Printed by scripts/catalogue.
+use Rattle.demands.proofs.Call.{OneAnswer, OneState, alike}
 use Rattle.standard.specs.ReservoirLaws.{one-turn}
-use Rattle.demands.proofs.Call.{alike, OneAnswer, OneState}
+use denote.Ref.{now}
 use Rattle.reservoir.proofs.emptied.Reads as emptied
 use Rattle.reservoir.proofs.emptied.Kinds as emptied-kinds
 use Rattle.reservoir.proofs.turn.Reads as turn

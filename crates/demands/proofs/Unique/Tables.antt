@@ -1,5 +1,5 @@
--- What no two readers may disagree on, for every public function of `tables`: one answer for the same arguments.
-use Rattle.demands.proofs.Call.{alike, OneAnswer}
+-- What no two readers may disagree on, for every public function of `tables`. Printed by scripts/catalogue.
+use Rattle.demands.proofs.Call.{OneAnswer, alike}
 use Rattle.tables.proofs.bands.long_start.Reads as long-start
 use Rattle.tables.proofs.bands.long_start.Kinds as long-start-kinds
 use Rattle.tables.proofs.bands.short_start.Reads as short-start

@@ -15,10 +15,10 @@ use Rattle.frame.proofs.with_header.Reads as reads
 use Rattle.frame.proofs.with_header.Lts as lts
 use Rattle.frame.proofs.refused.Reads as refused-reads
 use Rattle.frame.proofs.with_main.Reads as with-main-reads
-use Rattle.sizes.proofs.frame_length.Reads as frame-length-reads
-use Rattle.sizes.proofs.header_size.Reads as header-size-reads
-use Rattle.sizes.proofs.main_size.Reads as main-size-reads
-use Rattle.sizes.proofs.side_size.Reads as side-size-reads
+use Rattle.derived.proofs.frame_length.Reads as frame-length-reads
+use Rattle.derived.proofs.header_size.Reads as header-size-reads
+use Rattle.derived.proofs.main_size.Reads as main-size-reads
+use Rattle.derived.proofs.side_size.Reads as side-size-reads
 use Rattle.side_info.proofs.read_side_info.Reads as read-side-info-reads
 
 read-side-info-requires : tie.Need-read-side-info-requires

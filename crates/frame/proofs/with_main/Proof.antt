@@ -11,7 +11,7 @@ use Rattle.frame.proofs.with_main.Statement.{statement}
 use Rattle.frame.proofs.with_main.Tie as tie
 use Rattle.frame.proofs.with_main.Reads as reads
 use Rattle.frame.proofs.with_main.Lts as lts
-use Rattle.sizes.proofs.frame_length.Reads as frame-length-reads
+use Rattle.derived.proofs.frame_length.Reads as frame-length-reads
 use Rattle.main_data.proofs.answers.lacking_slots.Reads as lacking-slots-reads
 use Rattle.main_data.proofs.read_slots.Reads as read-slots-reads
 use Rattle.reservoir.proofs.turn.Reads as turn-reads

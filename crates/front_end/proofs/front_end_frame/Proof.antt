@@ -8,7 +8,7 @@ use Rattle.front_end.proofs.front_end_frame.Reads as reads
 use Rattle.front_end.proofs.front_end_frame.Lts as lts
 use Rattle.frame.proofs.process_frame.Reads as process-frame-reads
 use Rattle.front_end.proofs.rows.tell.Reads as tell-reads
-use Rattle.refusals.proofs.number_of.Reads as number-of-reads
+use Rattle.derived.proofs.number_of.Reads as number-of-reads
 
 number-of-requires : tie.Need-number-of-requires
 number-of-requires c κs = search needs

@@ -9,7 +9,7 @@ use Rattle.front_end.proofs.front_end_sizes.Reads as reads
 use Rattle.front_end.proofs.front_end_sizes.Lts as lts
 use Rattle.front_end.proofs.sizes_of.Reads as sizes-of-reads
 use Rattle.header.proofs.read_frame_header.Reads as read-frame-header-reads
-use Rattle.refusals.proofs.number_of.Reads as number-of-reads
+use Rattle.derived.proofs.number_of.Reads as number-of-reads
 
 -- src/lib.rt:203:11
 read-frame-header-requires : tie.Need-read-frame-header-requires

@@ -12,9 +12,9 @@ use Rattle.front_end.proofs.reorder_under.Tie as tie
 use Rattle.front_end.proofs.reorder_under.Reads as reads
 use Rattle.front_end.proofs.reorder_under.Lts as lts
 use Rattle.front_end.proofs.rows.verdict_number.Reads as verdict-number-reads
-use Rattle.sizes.proofs.channel_count.Reads as channel-count-reads
-use Rattle.sizes.proofs.granules.Reads as granules-reads
-use Rattle.refusals.proofs.number_of.Reads as number-of-reads
+use Rattle.derived.proofs.channel_count.Reads as channel-count-reads
+use Rattle.derived.proofs.granules.Reads as granules-reads
+use Rattle.derived.proofs.number_of.Reads as number-of-reads
 use Rattle.reorder.proofs.reorder.Reads as reorder-reads
 use Rattle.side_info.proofs.read_side_info.Reads as read-side-info-reads
 

@@ -5,14 +5,14 @@ use Rattle.front_end.proofs.sizes_of.Statement.{statement}
 use Rattle.front_end.proofs.sizes_of.Tie as tie
 use Rattle.front_end.proofs.sizes_of.Reads as reads
 use Rattle.front_end.proofs.sizes_of.Lts as lts
-use Rattle.sizes.proofs.bps.Reads as bps-reads
-use Rattle.sizes.proofs.channel_count.Reads as channel-count-reads
-use Rattle.sizes.proofs.frame_length.Reads as frame-length-reads
-use Rattle.sizes.proofs.granules.Reads as granules-reads
-use Rattle.sizes.proofs.header_size.Reads as header-size-reads
-use Rattle.sizes.proofs.hz.Reads as hz-reads
-use Rattle.sizes.proofs.main_size.Reads as main-size-reads
-use Rattle.sizes.proofs.side_size.Reads as side-size-reads
+use Rattle.derived.proofs.bps.Reads as bps-reads
+use Rattle.derived.proofs.channel_count.Reads as channel-count-reads
+use Rattle.derived.proofs.frame_length.Reads as frame-length-reads
+use Rattle.derived.proofs.granules.Reads as granules-reads
+use Rattle.derived.proofs.header_size.Reads as header-size-reads
+use Rattle.derived.proofs.hz.Reads as hz-reads
+use Rattle.derived.proofs.main_size.Reads as main-size-reads
+use Rattle.derived.proofs.side_size.Reads as side-size-reads
 
 -- src/lib.rt:187:17
 frame-length-requires : tie.Need-frame-length-requires

@@ -12,7 +12,7 @@ use Rattle.front_end.proofs.slots_under.Reads as reads
 use Rattle.front_end.proofs.slots_under.Lts as lts
 use Rattle.front_end.proofs.rows.tell.Reads as tell-reads
 use Rattle.main_data.proofs.read_slots.Reads as read-slots-reads
-use Rattle.refusals.proofs.number_of.Reads as number-of-reads
+use Rattle.derived.proofs.number_of.Reads as number-of-reads
 use Rattle.side_info.proofs.read_side_info.Reads as read-side-info-reads
 
 read-side-info-requires : tie.Need-read-side-info-requires

@@ -1,76 +1,36 @@
--- `huffman::regions_of` meets its contract: its tests are the definition's.
+-- `huffman::regions_of` meets its contract: a clause for each shape.
 -- Assumes nothing.
-use mathlib.Core.Path.{sym, _∙_}
-use Rattle.standard.specs.ToldLaws.{picked, passed}
-use Rattle.standard.specs.Numbers.{regionsOf}
-use Rattle.standard.specs.declared.Regions.the-variants.{Split}
+use mathlib.Core.Path.{sym, ap, _∙_}
+use Rattle.standard.specs.Numbers.{regionsBy}
+use Rattle.standard.specs.declared.Shape.{Shape}
 use borrow.Author.Needs.{needs}
 use Rattle.huffman.proofs.regions_of.Statement.{statement}
 use Rattle.huffman.proofs.regions_of.Tie as tie
-use Rattle.huffman.proofs.regions_of.Reads as reads
-use Rattle.huffman.proofs.regions_of.Lts as lts
-use Rattle.sizes.proofs.is_short.Reads as is-short-reads
-use Rattle.huffman.proofs.no_band.Reads as no-band-reads
-use Rattle.tables.proofs.bands.long_start.Reads as long-start-reads
 
-is-short-requires : tie.Need-is-short-requires
-is-short-requires c κs = search needs
+shape-of-requires : tie.Need-shape-of-requires
+shape-of-requires c κs = search needs
+
+enum-told : tie.Need-enum-told
+enum-told c = search needs
+
+long-regions-requires : tie.Need-long-regions-requires
+long-regions-requires c κs = search needs
+
+enum-told-2 : tie.Need-enum-told-2
+enum-told-2 c = search needs
 
 returns : tie.Need-returns
-unfolding regionsOf
-returns c = sym (picked _ (sym (c .before .is-short .ensures) ∙ c .if1 .taken))
-
-cast-zero : tie.Need-cast-zero
-cast-zero c = search needs
-
-cast-one : tie.Need-cast-one
-cast-one c = search needs
-
-add-no-band : tie.Need-add-no-band
-add-no-band c = search needs
-
-no-band-requires : tie.Need-no-band-requires
-no-band-requires c κs = search needs
+returns c =
+    let a = c .before .before .before .before .args in
+    c .long-regions .ensures ∙ ap (λ (k : Shape). regionsBy k (a .rate) (a .r)) (sym (c .before .enum-told .given .1) ∙ c .before .before .before .shape-of .ensures)
 
 returns-2 : tie.Need-returns-2
-unfolding regionsOf
-returns-2 c = sym (passed _ (sym (c .before .before .before .before .before .is-short .ensures) ∙ c .before .before .before .before .if1 .left) ∙ picked _ (sym (c .before .no-band .ensures) ∙ c .if2 .taken))
-
-add-long-start : tie.Need-add-long-start
-add-long-start c = search needs
-
-long-start-requires : tie.Need-long-start-requires
-long-start-requires c κs = search needs
-
-add-long-start-2 : tie.Need-add-long-start-2
-add-long-start-2 c = search needs
-
-add-long-start-3 : tie.Need-add-long-start-3
-add-long-start-3 c = search needs
-
-long-start-requires-2 : tie.Need-long-start-requires-2
-long-start-requires-2 c κs = search needs
-
-returns-3 : tie.Need-returns-3
-unfolding regionsOf
-returns-3 c =
-    (λ j. Split (c .before .long-start .ensures j) (c .long-start2 .ensures j))
-    ∙ sym (passed _ (sym (c .before .before .before .before .before .before .before .is-short .ensures) ∙ c .before .before .before .before .before .before .if1 .left) ∙ passed _ (sym (c .before .before .before .no-band .ensures) ∙ c .before .before .if2 .left))
+unfolding regionsBy
+returns-2 c =
+    let a = c .before .before .before .args in
+    ap (λ (k : Shape). regionsBy k (a .rate) (a .r)) (sym (c .enum-told2 .given .1) ∙ c .before .before .shape-of .ensures)
 
 pub regions-of-spec : {M : Type 1} → statement M
 regions-of-spec =
     tie.close
-    (tie.spec
-    is-short-requires
-    returns
-    cast-zero
-    cast-one
-    add-no-band
-    no-band-requires
-    returns-2
-    add-long-start
-    long-start-requires
-    add-long-start-2
-    add-long-start-3
-    long-start-requires-2
-    returns-3)
+    (tie.spec shape-of-requires enum-told long-regions-requires enum-told-2 returns returns-2)

@@ -9,17 +9,17 @@ use lib.ListN.{length, getD, take}
 use mir.Syntax.{w32}
 use mir.Val.{SFits}
 use mir.ValLaws.{toZ-ofZ}
-use Rattle.text.specs.Text.{signedOf}
-use Rattle.window.specs.Window.{Put}
-use Rattle.window.specs.WindowLaws.{put-none, put-same, put-then, put-long}
+use Rattle.lines.specs.Text.{signedOf}
+use Rattle.lent_bytes.specs.Put.{Put}
+use Rattle.lent_bytes.specs.PutLaws.{put-none, put-same, put-then, put-long}
 use Rattle.lines.specs.Said.{numbersText}
 use Rattle.lines.specs.SaidLaws.{text-next, text-all}
 use Rattle.lines.proofs.put_numbers.Statement.{statement}
 use Rattle.lines.proofs.put_numbers.Tie as tie
 use Rattle.lines.proofs.put_numbers.Reads as reads
 use Rattle.lines.proofs.put_numbers.Lts as lts
-use Rattle.text.proofs.put_signed.Reads as put-signed-reads
-use Rattle.window.proofs.put.Reads as put-reads
+use Rattle.lines.proofs.text.put_signed.Reads as put-signed-reads
+use Rattle.lent_bytes.proofs.put.Reads as put-reads
 
 abbrev Inv-loop : tie.InvT-loop
 Inv-loop out₀ at numbers next₀ i₀ t7 out next i = (i ≤ length numbers) × Put out₀ at (numbersText (take i numbers)) next out

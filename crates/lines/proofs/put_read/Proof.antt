@@ -1,5 +1,5 @@
 -- `lines::put_read` meets its contract: what is put one after the other is the line's end. Assumes nothing.
-use Rattle.window.specs.WindowLaws.{put-then}
+use Rattle.lent_bytes.specs.PutLaws.{put-then}
 use Rattle.lines.specs.Said.{readEnd}
 use borrow.Author.Needs.{needs}
 use Rattle.lines.proofs.put_read.Statement.{statement}
@@ -7,8 +7,8 @@ use Rattle.lines.proofs.put_read.Tie as tie
 use Rattle.lines.proofs.put_read.Reads as reads
 use Rattle.lines.proofs.put_read.Lts as lts
 use Rattle.lines.proofs.put_numbers.Reads as put-numbers-reads
-use Rattle.text.proofs.put_number.Reads as put-number-reads
-use Rattle.window.proofs.put.Reads as put-reads
+use Rattle.lines.proofs.text.put_number.Reads as put-number-reads
+use Rattle.lent_bytes.proofs.put.Reads as put-reads
 
 slice-aggregate-put : tie.Need-slice-aggregate-put
 slice-aggregate-put c = search needs

@@ -1,16 +1,16 @@
 -- `lines::put_refused` meets its contract: what is put one after the other is the line. Assumes nothing.
 use mathlib.Core.Path.{ap}
-use Rattle.text.specs.Text.{decimalOf}
-use Rattle.window.specs.WindowLaws.{put-same, put-then}
+use Rattle.lines.specs.Text.{decimalOf}
+use Rattle.lent_bytes.specs.PutLaws.{put-same, put-then}
 use Rattle.lines.specs.Said.{refusedLine}
 use borrow.Author.Needs.{needs}
 use Rattle.lines.proofs.put_refused.Statement.{statement}
 use Rattle.lines.proofs.put_refused.Tie as tie
 use Rattle.lines.proofs.put_refused.Reads as reads
 use Rattle.lines.proofs.put_refused.Lts as lts
-use Rattle.refusals.proofs.number_of.Reads as number-of-reads
-use Rattle.text.proofs.put_number.Reads as put-number-reads
-use Rattle.window.proofs.put.Reads as put-reads
+use Rattle.derived.proofs.number_of.Reads as number-of-reads
+use Rattle.lines.proofs.text.put_number.Reads as put-number-reads
+use Rattle.lent_bytes.proofs.put.Reads as put-reads
 
 slice-aggregate-put : tie.Need-slice-aggregate-put
 slice-aggregate-put c = search needs

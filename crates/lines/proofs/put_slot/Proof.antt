@@ -1,5 +1,5 @@
 -- `lines::put_slot` meets its contract: each outcome has its line (SaidLaws). Assumes nothing.
-use Rattle.window.specs.WindowLaws.{put-none, put-same, put-then}
+use Rattle.lent_bytes.specs.PutLaws.{put-none, put-same, put-then}
 use Rattle.lines.specs.SaidLaws.{lacking-line, refused-line, read-line}
 use borrow.Author.Needs.{needs}
 use Rattle.lines.proofs.put_slot.Statement.{statement}

@@ -1,5 +1,5 @@
 -- `lines::put_slots` meets its contract: what is put one after the other is the text. Assumes nothing.
-use Rattle.window.specs.WindowLaws.{put-then}
+use Rattle.lent_bytes.specs.PutLaws.{put-then}
 use Rattle.lines.specs.Said.{slotsText}
 use borrow.Author.Needs.{needs}
 use Rattle.lines.proofs.put_slots.Statement.{statement}

@@ -12,7 +12,7 @@ use Rattle.main_data.proofs.read_slots.Lts as lts
 use Rattle.header.proofs.is_header.Reads as is-header-reads
 use Rattle.main_data.proofs.answers.no_slots.Reads as no-slots-reads
 use Rattle.main_data.proofs.frame_slots.slots_from.Reads as slots-from-reads
-use Rattle.records.proofs.is_side_info.Reads as is-side-info-reads
+use Rattle.record_check.proofs.is_side_info.Reads as is-side-info-reads
 use Rattle.codes.proofs.trees.trees.Reads as trees-reads
 
 no-slots-requires : tie.Need-no-slots-requires

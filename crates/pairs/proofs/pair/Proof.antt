@@ -2,7 +2,7 @@
 -- so the places do not wrap. Assumes nothing.
 use mathlib.Core.Path.{sym, _∙_}
 use native.Mathlib.Omega.{arith}
-use Rattle.standard.specs.BitsLaws.{window-drop}
+use Rattle.standard.specs.BitsLaws.{between-drop}
 use Rattle.standard.specs.NumbersLaws.{escape-le}
 use Rattle.standard.specs.Numbers.{pairAfter, pairWord, pairOf}
 use Rattle.pairs.proofs.Within.{word-within, two-within}
@@ -45,11 +45,11 @@ enum-told-2 c = search needs
 
 returns : tie.Need-returns
 unfolding pairOf pairWord pairAfter
-returns c = rw (sym (c .before .before .before .before .before .before .before .lookup .ensures) ∙ c .before .before .before .before .before .value .given .1, window-drop, sym (c .before .before .before .two .ensures) ∙ c .before .x .given .1) (search needs)
+returns c = rw (sym (c .before .before .before .before .before .before .before .lookup .ensures) ∙ c .before .before .before .before .before .value .given .1, between-drop, sym (c .before .before .before .two .ensures) ∙ c .before .x .given .1) (search needs)
 
 returns-2 : tie.Need-returns-2
 unfolding pairOf pairWord pairAfter
-returns-2 c = rw (sym (c .before .before .before .before .before .before .before .lookup .ensures) ∙ c .before .before .before .before .before .value .given .1, window-drop, sym (c .before .before .before .two .ensures) ∙ c .before .why .given .1)
+returns-2 c = rw (sym (c .before .before .before .before .before .before .before .lookup .ensures) ∙ c .before .before .before .before .before .value .given .1, between-drop, sym (c .before .before .before .two .ensures) ∙ c .before .why .given .1)
 
 returns-3 : tie.Need-returns-3
 unfolding pairOf pairWord

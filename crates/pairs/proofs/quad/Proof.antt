@@ -2,7 +2,7 @@
 -- Assumes nothing.
 use mathlib.Core.Path.{sym, _∙_}
 use native.Mathlib.Omega.{arith}
-use Rattle.standard.specs.BitsLaws.{window-drop}
+use Rattle.standard.specs.BitsLaws.{between-drop}
 use Rattle.standard.specs.Numbers.{quadWord, quadOf}
 use Rattle.pairs.proofs.Within.{word-within}
 use borrow.Author.Needs.{needs}
@@ -33,7 +33,7 @@ enum-told-2 c = search needs
 
 returns : tie.Need-returns
 unfolding quadOf quadWord
-returns c = rw (sym (c .before .before .before .before .lookup .ensures) ∙ c .before .before .value .given .1, window-drop) (c .signs .ensures)
+returns c = rw (sym (c .before .before .before .before .lookup .ensures) ∙ c .before .before .value .given .1, between-drop) (c .signs .ensures)
 
 returns-2 : tie.Need-returns-2
 unfolding quadOf quadWord

@@ -2,7 +2,7 @@
 -- bits, so the places do not wrap. Assumes nothing.
 use mathlib.Core.Path.{sym, _∙_}
 use native.Mathlib.Omega.{arith}
-use Rattle.standard.specs.BitsLaws.{window-drop}
+use Rattle.standard.specs.BitsLaws.{between-drop}
 use Rattle.standard.specs.Numbers.{quadLast, quadFirst}
 use Rattle.pairs.proofs.Within.{two-within}
 use borrow.Author.Needs.{needs}
@@ -39,7 +39,7 @@ enum-told-2 c = search needs
 
 returns-2 : tie.Need-returns-2
 unfolding quadFirst quadLast
-returns-2 c = rw (sym (c .before .before .before .before .before .before .plain .ensures) ∙ c .before .before .before .before .v .given .1, window-drop, sym (c .before .before .plain2 .ensures) ∙ c .enum-told2 .given .1)
+returns-2 c = rw (sym (c .before .before .before .before .before .before .plain .ensures) ∙ c .before .before .before .before .v .given .1, between-drop, sym (c .before .before .plain2 .ensures) ∙ c .enum-told2 .given .1)
 
 add-t19 : tie.Need-add-t19
 add-t19 c = omega (arith, two-within _ _ _ 0 _ _ _ (omega arith) (omega arith) (omega arith) (sym (c .before .before .before .before .before .v .given .1) ∙ c .before .before .before .before .before .before .before .plain .ensures), c .before .before .before .before .before .before .before .before .before .pre)
@@ -51,7 +51,7 @@ add-t20 c =
 
 returns-3 : tie.Need-returns-3
 unfolding quadFirst quadLast
-returns-3 c = rw (sym (c .before .before .before .before .before .before .before .plain .ensures) ∙ c .before .before .before .before .before .v .given .1, window-drop, sym (c .before .before .before .plain2 .ensures) ∙ c .before .x .given .1) (search needs)
+returns-3 c = rw (sym (c .before .before .before .before .before .before .before .plain .ensures) ∙ c .before .before .before .before .before .v .given .1, between-drop, sym (c .before .before .before .plain2 .ensures) ∙ c .before .x .given .1) (search needs)
 
 pub signs-spec : {M : Type 1} → statement M
 signs-spec =

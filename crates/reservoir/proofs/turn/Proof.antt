@@ -9,15 +9,15 @@ use lib.ListN.{length, drop}
 use lib.Seq.{paste}
 use Rattle.standard.specs.Reservoir.{turnKept, turnVerdict}
 use Rattle.standard.specs.ReservoirLaws.{few-lent, much-stated, too-long, short-turn, reached-turn, short-bytes, short-length, reached-length, reached-bytes, unfit-turned, changed-turned}
-use Rattle.window.specs.WindowLaws.{put-whole, slid-whole}
+use Rattle.lent_bytes.specs.PutLaws.{put-whole, slid-whole}
 use borrow.Author.Needs.{needs}
 use Rattle.reservoir.proofs.turn.Statement.{statement}
 use Rattle.reservoir.proofs.turn.Tie as tie
 use Rattle.reservoir.proofs.turn.Reads as reads
 use Rattle.reservoir.proofs.turn.Lts as lts
 use Rattle.reservoir.proofs.refused.Reads as refused-reads
-use Rattle.window.proofs.slide.Reads as slide-reads
-use Rattle.window.proofs.put.Reads as put-reads
+use Rattle.lent_bytes.proofs.slide.Reads as slide-reads
+use Rattle.lent_bytes.proofs.put.Reads as put-reads
 
 refused-requires : tie.Need-refused-requires
 refused-requires c κs = search needs

@@ -8,17 +8,17 @@ use Rattle.slots.proofs.walk.Statement.{statement}
 use Rattle.slots.proofs.walk.Tie as tie
 use Rattle.slots.proofs.walk.Reads as reads
 use Rattle.slots.proofs.walk.Lts as lts
-use Rattle.card.proofs.blank.Reads as blank-reads
+use Rattle.input.proofs.blank.Reads as blank-reads
 use Rattle.reservoir.proofs.emptied.Reads as emptied-reads
 use Rattle.slots.proofs.finish.Reads as finish-reads
 use Rattle.slots.proofs.step.Reads as step-reads
-use Rattle.window.proofs.put.Reads as put-reads
+use Rattle.lent_bytes.proofs.put.Reads as put-reads
 
 abbrev Inv-loop : tie.InvT-loop
-Inv-loop window₀ bytes₀ numbers₀ out₀ at run₀ n₀ window bytes numbers out run n = (length window ≡ length window₀) × (length bytes ≡ length bytes₀) × (length numbers ≡ length numbers₀) × (length out ≡ length out₀)
+Inv-loop piece₀ bytes₀ numbers₀ out₀ at run₀ n₀ piece bytes numbers out run n = (length piece ≡ length piece₀) × (length bytes ≡ length bytes₀) × (length numbers ≡ length numbers₀) × (length out ≡ length out₀)
 
 abbrev μ-loop : tie.MeasureT-loop
-μ-loop window₀ bytes₀ numbers₀ out₀ at run₀ n₀ window bytes numbers out run n = 18446744073709551615 - n
+μ-loop piece₀ bytes₀ numbers₀ out₀ at run₀ n₀ piece bytes numbers out run n = 18446744073709551615 - n
 
 slice-aggregate-put : tie.Need-slice-aggregate-put Inv-loop μ-loop
 slice-aggregate-put c = search needs

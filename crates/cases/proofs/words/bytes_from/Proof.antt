@@ -9,7 +9,7 @@ use Rattle.cases.proofs.words.bytes_from.Tie as tie
 use Rattle.cases.proofs.words.bytes_from.Reads as reads
 use Rattle.cases.proofs.words.bytes_from.Lts as lts
 use Rattle.cases.proofs.words.hex_pair.Reads as hex-pair-reads
-use Rattle.window.proofs.put.Reads as put-reads
+use Rattle.lent_bytes.proofs.put.Reads as put-reads
 
 abbrev Inv-loop : tie.InvT-loop
 Inv-loop text from bytes₀ at₀ n₀ bytes at n = length bytes ≡ length bytes₀

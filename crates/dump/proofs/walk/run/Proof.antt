@@ -8,10 +8,10 @@ use Rattle.dump.proofs.walk.run.Statement.{statement}
 use Rattle.dump.proofs.walk.run.Tie as tie
 
 abbrev Inv-loop : tie.InvT-loop
-Inv-loop out₀ window₀ bytes₀ numbers₀ said w₀ turns₀ out window bytes numbers w turns = (length out ≡ length out₀) × (length window ≡ length window₀) × (length bytes ≡ length bytes₀) × (length numbers ≡ length numbers₀)
+Inv-loop out₀ piece₀ bytes₀ numbers₀ said w₀ turns₀ out piece bytes numbers w turns = (length out ≡ length out₀) × (length piece ≡ length piece₀) × (length bytes ≡ length bytes₀) × (length numbers ≡ length numbers₀)
 
 abbrev μ-loop : tie.MeasureT-loop
-μ-loop out₀ window₀ bytes₀ numbers₀ said w₀ turns₀ out window bytes numbers w turns = turns
+μ-loop out₀ piece₀ bytes₀ numbers₀ said w₀ turns₀ out piece bytes numbers w turns = turns
 
 start-requires : tie.Need-start-requires Inv-loop μ-loop
 start-requires c κs = search needs

@@ -7,7 +7,7 @@ use Rattle.front_end.proofs.rows.said_of.Statement.{statement}
 use Rattle.front_end.proofs.rows.said_of.Tie as tie
 use Rattle.front_end.proofs.rows.said_of.Reads as reads
 use Rattle.front_end.proofs.rows.said_of.Lts as lts
-use Rattle.refusals.proofs.number_of.Reads as number-of-reads
+use Rattle.derived.proofs.number_of.Reads as number-of-reads
 
 -- src/rows.rt:29:29
 enum-known-o : tie.Need-enum-known-o

@@ -10,7 +10,7 @@ use Rattle.front_end.proofs.rows.tell.Tie as tie
 use Rattle.front_end.proofs.rows.tell.Reads as reads
 use Rattle.front_end.proofs.rows.tell.Lts as lts
 use Rattle.front_end.proofs.rows.put_rows.Reads as put-rows-reads
-use Rattle.refusals.proofs.number_of.Reads as number-of-reads
+use Rattle.derived.proofs.number_of.Reads as number-of-reads
 
 enum-known-verdict : tie.Need-enum-known-verdict
 enum-known-verdict c = search needs

@@ -7,7 +7,7 @@ use Rattle.front_end.proofs.rows.verdict_number.Statement.{statement}
 use Rattle.front_end.proofs.rows.verdict_number.Tie as tie
 use Rattle.front_end.proofs.rows.verdict_number.Reads as reads
 use Rattle.front_end.proofs.rows.verdict_number.Lts as lts
-use Rattle.refusals.proofs.number_of.Reads as number-of-reads
+use Rattle.derived.proofs.number_of.Reads as number-of-reads
 
 -- src/rows.rt:97:26
 enum-known-verdict : tie.Need-enum-known-verdict

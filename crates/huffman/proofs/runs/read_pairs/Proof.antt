@@ -6,7 +6,7 @@ use native.Mathlib.Omega.{arith}
 use mir.Syntax.{w32}
 use mir.Val.{SFits}
 use mir.ValLaws.{toZ-ofZ}
-use Rattle.standard.specs.Bits.{window}
+use Rattle.standard.specs.Bits.{between}
 use Rattle.standard.specs.Numbers.{tableAt, pairs}
 use Rattle.codes.specs.Walk.{lookedUp}
 use Rattle.pairs.proofs.Within.{pair-within}
@@ -21,7 +21,7 @@ use Rattle.pairs.proofs.pair.Reads as pair-reads
 
 abbrev Inv-loop : tie.InvT-loop
 Inv-loop trees first second tables n s start end out₀ at₀ i₀ k₀ out at i k =
-    PairLoop (pairs (lookedUp trees) (tableAt first second tables) 0 n (window s start end)) trees (tableAt first second tables) n s end out₀ out at i k
+    PairLoop (pairs (lookedUp trees) (tableAt first second tables) 0 n (between s start end)) trees (tableAt first second tables) n s end out₀ out at i k
 
 abbrev μ-loop : tie.MeasureT-loop
 μ-loop trees first second tables n s start end out₀ at₀ i₀ k₀ out at i k = n - k

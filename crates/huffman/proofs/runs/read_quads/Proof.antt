@@ -7,7 +7,7 @@ use lib.ListN.{take}
 use mir.Syntax.{w32}
 use mir.Val.{SFits}
 use mir.ValLaws.{toZ-ofZ}
-use Rattle.standard.specs.Bits.{window}
+use Rattle.standard.specs.Bits.{between}
 use Rattle.standard.specs.Numbers.{prepend, quads}
 use Rattle.codes.specs.Walk.{lookedUp}
 use Rattle.pairs.proofs.Within.{quad-within}
@@ -23,7 +23,7 @@ use Rattle.pairs.proofs.quad.Reads as quad-reads
 
 abbrev Inv-loop : tie.InvT-loop
 Inv-loop trees table s start end from out₀ at₀ i₀ out at i =
-    QuadLoop (prepend (take from out₀) (quads (lookedUp trees) table ((576 - from) / 4) (window s start end))) trees table from s end out₀ out at i
+    QuadLoop (prepend (take from out₀) (quads (lookedUp trees) table ((576 - from) / 4) (between s start end))) trees table from s end out₀ out at i
 
 abbrev μ-loop : tie.MeasureT-loop
 μ-loop trees table s start end from out₀ at₀ i₀ out at i = 576 - i

@@ -14,8 +14,8 @@ use Rattle.main_data.proofs.frame_slots.slots_from.Statement.{statement
 use Rattle.main_data.proofs.frame_slots.slots_from.Tie as tie
 use Rattle.main_data.proofs.frame_slots.slots_from.Reads as reads
 use Rattle.main_data.proofs.frame_slots.slots_from.Lts as lts
-use Rattle.sizes.proofs.channel_count.Reads as channel-count-reads
-use Rattle.sizes.proofs.granules.Reads as granules-reads
+use Rattle.derived.proofs.channel_count.Reads as channel-count-reads
+use Rattle.derived.proofs.granules.Reads as granules-reads
 use Rattle.main_data.proofs.answers.lacking_slots.Reads as lacking-slots-reads
 use Rattle.main_data.proofs.frame_slots.mate_of.Reads as mate-of-reads
 use Rattle.main_data.proofs.setting.setting_of.Reads as setting-of-reads

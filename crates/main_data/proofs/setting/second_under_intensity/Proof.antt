@@ -8,7 +8,7 @@ use Rattle.main_data.proofs.setting.second_under_intensity.Statement.{s
 use Rattle.main_data.proofs.setting.second_under_intensity.Tie as tie
 use Rattle.main_data.proofs.setting.second_under_intensity.Reads as reads
 use Rattle.main_data.proofs.setting.second_under_intensity.Lts as lts
-use Rattle.sizes.proofs.is_intensity.Reads as is-intensity-reads
+use Rattle.derived.proofs.is_intensity.Reads as is-intensity-reads
 
 is-intensity-requires : tie.Need-is-intensity-requires
 is-intensity-requires c κs = search needs

@@ -5,7 +5,7 @@ use Rattle.main_data.proofs.setting.setting_of.Statement.{statement}
 use Rattle.main_data.proofs.setting.setting_of.Tie as tie
 use Rattle.main_data.proofs.setting.setting_of.Reads as reads
 use Rattle.main_data.proofs.setting.setting_of.Lts as lts
-use Rattle.sizes.proofs.is_mpeg1.Reads as is-mpeg1-reads
+use Rattle.derived.proofs.is_mpeg1.Reads as is-mpeg1-reads
 use Rattle.main_data.proofs.setting.second_under_intensity.Reads as second-under-intensity-reads
 use Rattle.main_data.proofs.setting.shares_of.Reads as shares-of-reads
 

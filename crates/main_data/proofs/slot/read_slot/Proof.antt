@@ -29,7 +29,7 @@ not-read-requires c κs = search needs
 returns : tie.Need-returns
 returns c =
     let a = c .before .before .before .before .before .args in
-    let h : 8 * length (now (a .main)) < a .at + a .r .length = omega (arith, c .before .if1 .taken) in
+    let h : 8 * length (now (a .main)) < a .at + a .r .«part2_3_length» = omega (arith, c .before .if1 .taken) in
     stopped-read (slotIn-missing (now (a .main)) (a .at) (a .g) (a .r) (a .lost) (a .old) h) (c .not-read .ensures) refl
 
 read-whole-requires : tie.Need-read-whole-requires
@@ -41,7 +41,7 @@ same-length c = search needs
 returns-2 : tie.Need-returns-2
 returns-2 c =
     let a = c .before .before .before .before .before .before .before .args in
-    let h : a .at + a .r .length ≤ 8 * length (now (a .main)) = omega arith in
+    let h : a .at + a .r .«part2_3_length» ≤ 8 * length (now (a .main)) = omega arith in
     rw (slotIn-read (now (a .main)) (a .at) (a .g) (a .r) (a .lost) (a .old) h) (c .before .read-whole .ensures)
 
 pub read-slot-spec : {M : Type 1} → statement M

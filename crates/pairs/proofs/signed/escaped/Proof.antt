@@ -2,7 +2,7 @@
 -- places do not wrap. Assumes nothing.
 use mathlib.Core.Path.{sym, _∙_}
 use native.Mathlib.Omega.{arith}
-use Rattle.standard.specs.BitsLaws.{window-drop}
+use Rattle.standard.specs.BitsLaws.{between-drop}
 use Rattle.standard.specs.Numbers.{twoLast, twoFirst, twoOf}
 use Rattle.pairs.proofs.Within.{number-within}
 use borrow.Author.Needs.{needs}
@@ -39,7 +39,7 @@ enum-told-2 c = search needs
 
 returns-2 : tie.Need-returns-2
 unfolding twoOf twoFirst twoLast
-returns-2 c = rw (sym (c .before .before .before .before .before .before .number .ensures) ∙ c .before .before .before .before .p .given .1, window-drop, sym (c .before .before .number2 .ensures) ∙ c .enum-told2 .given .1)
+returns-2 c = rw (sym (c .before .before .before .before .before .before .number .ensures) ∙ c .before .before .before .before .p .given .1, between-drop, sym (c .before .before .number2 .ensures) ∙ c .enum-told2 .given .1)
 
 add-t16 : tie.Need-add-t16
 add-t16 c =
@@ -48,7 +48,7 @@ add-t16 c =
 
 returns-3 : tie.Need-returns-3
 unfolding twoOf twoFirst twoLast
-returns-3 c = rw (sym (c .before .before .before .before .before .before .before .number .ensures) ∙ c .before .before .before .before .before .p .given .1, window-drop, sym (c .before .before .before .number2 .ensures) ∙ c .before .q .given .1) (search needs)
+returns-3 c = rw (sym (c .before .before .before .before .before .before .before .number .ensures) ∙ c .before .before .before .before .before .p .given .1, between-drop, sym (c .before .before .before .number2 .ensures) ∙ c .before .q .given .1) (search needs)
 
 pub escaped-spec : {M : Type 1} → statement M
 escaped-spec =

@@ -2,7 +2,7 @@
 -- places do not wrap. Assumes nothing.
 use mathlib.Core.Path.{sym, _∙_}
 use native.Mathlib.Omega.{arith}
-use Rattle.standard.specs.BitsLaws.{window-drop}
+use Rattle.standard.specs.BitsLaws.{between-drop}
 use Rattle.standard.specs.Numbers.{further, thenSign, numberIn}
 use Rattle.pairs.proofs.Within.{magnitude-within, signed-within}
 use borrow.Author.Needs.{needs}
@@ -40,7 +40,7 @@ enum-told-2 c = search needs
 
 returns-2 : tie.Need-returns-2
 unfolding numberIn thenSign further
-returns-2 c = rw (sym (c .before .before .before .before .before .before .magnitude .ensures) ∙ c .before .before .before .before .v .given .1, window-drop, sym (c .before .before .with-sign .ensures) ∙ c .enum-told2 .given .1)
+returns-2 c = rw (sym (c .before .before .before .before .before .before .magnitude .ensures) ∙ c .before .before .before .before .v .given .1, between-drop, sym (c .before .before .with-sign .ensures) ∙ c .enum-told2 .given .1)
 
 add-t13 : tie.Need-add-t13
 add-t13 c =
@@ -49,7 +49,7 @@ add-t13 c =
 
 returns-3 : tie.Need-returns-3
 unfolding numberIn thenSign further
-returns-3 c = rw (sym (c .before .before .before .before .before .before .before .magnitude .ensures) ∙ c .before .before .before .before .before .v .given .1, window-drop, sym (c .before .before .before .with-sign .ensures) ∙ c .before .z .given .1) (search needs)
+returns-3 c = rw (sym (c .before .before .before .before .before .before .before .magnitude .ensures) ∙ c .before .before .before .before .before .v .given .1, between-drop, sym (c .before .before .before .with-sign .ensures) ∙ c .before .z .given .1) (search needs)
 
 pub number-spec : {M : Type 1} → statement M
 number-spec =

@@ -2,7 +2,7 @@
 -- bits, so the places do not wrap. Assumes nothing.
 use mathlib.Core.Path.{sym, _∙_}
 use native.Mathlib.Omega.{arith}
-use Rattle.standard.specs.BitsLaws.{window-drop}
+use Rattle.standard.specs.BitsLaws.{between-drop}
 use Rattle.standard.specs.Numbers.{twoLast, twoFirst, twoOf}
 use Rattle.pairs.proofs.Within.{signed-within}
 use Rattle.pairs.proofs.Plain.{plain-number}
@@ -43,7 +43,7 @@ unfolding twoOf twoFirst twoLast
 returns-2 c =
     rw (
       plain-number 0 _ _ (c .before .before .before .before .before .before .before .before .pre .0) ∙ (sym (c .before .before .before .before .before .before .with-sign .ensures) ∙ c .before .before .before .before .v .given .1),
-      window-drop,
+      between-drop,
       plain-number 0 _ _ (c .before .before .before .before .before .before .before .before .pre .1) ∙ (sym (c .before .before .with-sign2 .ensures) ∙ c .enum-told2 .given .1),
     )
 
@@ -57,7 +57,7 @@ unfolding twoOf twoFirst twoLast
 returns-3 c =
     rw (
       plain-number 0 _ _ (c .before .before .before .before .before .before .before .before .before .pre .0) ∙ (sym (c .before .before .before .before .before .before .before .with-sign .ensures) ∙ c .before .before .before .before .before .v .given .1),
-      window-drop,
+      between-drop,
       plain-number 0 _ _ (c .before .before .before .before .before .before .before .before .before .pre .1) ∙ (sym (c .before .before .before .with-sign2 .ensures) ∙ c .before .w .given .1),
     )
     (search needs)

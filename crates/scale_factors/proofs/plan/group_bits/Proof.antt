@@ -48,7 +48,7 @@ returns : tie.Need-returns
 returns c =
     let p = c .before .before .before .before .args .t1 in
     let g = c .before .before .before .before .args .g in
-    ap (λ (w : ℕ). getD (p .counts) g 0 * w) (c .width-of .ensures) ∙ sym (group-bits (p .counts) (p .lengths) (p .shares) g)
+    ap (λ (w : ℕ). getD (p .counts) g 0 * w) (c .width-of .ensures) ∙ sym (group-bits p g)
 
 pub group-bits-spec : {M : Type 1} → statement M
 group-bits-spec =

@@ -2,8 +2,7 @@
 -- Assumes nothing.
 use mathlib.Core.Bool.{false}
 use lib.ListN.{replicate}
-use Rattle.standard.specs.FactorsLaws.{countsOf, lengthsOf, sharedOf}
-use Rattle.scale_factors.specs.Groups.{planned, planIn}
+use Rattle.standard.specs.Factors.{planBy}
 use borrow.Author.Needs.{needs}
 use Rattle.scale_factors.proofs.plan.lfs_plan.Statement.{statement}
 use Rattle.scale_factors.proofs.plan.lfs_plan.Tie as tie
@@ -15,8 +14,8 @@ lfs-lengths-requires : tie.Need-lfs-lengths-requires
 lfs-lengths-requires c κs = search needs
 
 returns : tie.Need-returns
-unfolding planIn countsOf lengthsOf sharedOf
-returns c = λ j. planned (c .before .lfs-counts .ensures j) (c .lfs-lengths .ensures j) (replicate 4 false)
+unfolding planBy
+returns c = λ j. record { counts = c .before .lfs-counts .ensures j; lengths = c .lfs-lengths .ensures j; shares = replicate 4 false }
 
 pub lfs-plan-spec : {M : Type 1} → statement M
 lfs-plan-spec = tie.close (tie.spec lfs-counts-requires lfs-lengths-requires returns)

@@ -5,9 +5,8 @@ use mathlib.Core.Bool.{Bool, true, false}
 use mathlib.Core.List.{[], _∷_}
 use lib.ListN.{replicate}
 use borrow.Author.Needs.{needs}
-use Rattle.standard.specs.Told.{pick}
-use Rattle.standard.specs.FactorsLaws.{countsOf, lengthsOf, sharedOf}
-use Rattle.scale_factors.specs.Groups.{planned, planIn}
+use Rattle.standard.specs.Factors.{planBy}
+use Rattle.standard.specs.declared.Shape.{Shape}
 use Rattle.scale_factors.proofs.plan.mpeg1_plan.Statement.{statement}
 use Rattle.scale_factors.proofs.plan.mpeg1_plan.Tie as tie
 
@@ -21,21 +20,27 @@ cast-second : tie.Need-cast-second
 cast-second c = search needs
 
 returns : tie.Need-returns
-unfolding pick planIn countsOf lengthsOf sharedOf
+unfolding planBy
 returns c =
-    let e = c .before .before .before .factor-lengths .ensures in
-    let a = c .before .before .before .before .args in
-    (λ j. planned (18 ∷ 18 ∷ 0 ∷ 0 ∷ []) (e .0 j ∷ e .1 j ∷ 0 ∷ 0 ∷ []) (replicate 4 false))
-    ∙ ap (λ (short : Bool). planIn true (a .intensity) short (a .compress) (a .shares)) (sym (c .if1 .taken))
+    let e = c .before .before .before .before .factor-lengths .ensures in
+    let a = c .before .before .before .before .before .args in
+    (λ j. record { counts = 6 ∷ 5 ∷ 5 ∷ 5 ∷ []; lengths = e .0 j ∷ e .0 j ∷ e .1 j ∷ e .1 j ∷ []; shares = a .shares })
+    ∙ ap (λ (k : Shape). planBy true (a .intensity) (a .shares) k (a .compress)) (sym (c .enum-told .given .1))
 
 returns-2 : tie.Need-returns-2
-unfolding pick planIn countsOf lengthsOf sharedOf
+unfolding planBy
 returns-2 c =
-    let e = c .before .before .before .factor-lengths .ensures in
-    let a = c .before .before .before .before .args in
-    (λ j. planned (6 ∷ 5 ∷ 5 ∷ 5 ∷ []) (e .0 j ∷ e .0 j ∷ e .1 j ∷ e .1 j ∷ []) (a .shares))
-    ∙ ap (λ (short : Bool). planIn true (a .intensity) short (a .compress) (a .shares)) (sym (c .if1 .left))
+    let e = c .before .before .before .before .factor-lengths .ensures in
+    let a = c .before .before .before .before .before .args in
+    (λ j. record { counts = 18 ∷ 18 ∷ 0 ∷ 0 ∷ []; lengths = e .0 j ∷ e .1 j ∷ 0 ∷ 0 ∷ []; shares = replicate 4 false })
+    ∙ ap (λ (k : Shape). planBy true (a .intensity) (a .shares) k (a .compress)) (sym (c .enum-told2 .given .1))
+
+enum-told : tie.Need-enum-told
+enum-told c = search needs
+
+enum-told-2 : tie.Need-enum-told-2
+enum-told-2 c = search needs
 
 pub mpeg1-plan-spec : {M : Type 1} → statement M
 mpeg1-plan-spec =
-    tie.close (tie.spec factor-lengths-requires cast-first cast-second returns returns-2)
+    tie.close (tie.spec factor-lengths-requires cast-first cast-second enum-told enum-told-2 returns returns-2)

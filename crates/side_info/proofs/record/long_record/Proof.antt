@@ -31,18 +31,18 @@ returns c =
     λ mpeg1 s at e j.
     let k = e .common j in
     record {
-      length = k .length;
-      pairs = k .pairs;
-      gain = k .gain;
-      compress = k .compress;
-      block = Long;
-      gains = zero-gain j ∷ zero-gain j ∷ zero-gain j ∷ [];
-      tables = window-cut e 1 5 17 refl j ∷ window-cut e 6 5 12 refl j ∷ window-cut e 11 5 7 refl j ∷ [];
-      region0 = window-cut e 16 4 3 refl j;
-      region1 = window-last e 20 3 refl j;
+      «part2_3_length» = k .«part2_3_length»;
+      «big_values» = k .«big_values»;
+      «global_gain» = k .«global_gain»;
+      «scalefac_compress» = k .«scalefac_compress»;
+      «block_type» = Long;
+      «subblock_gain» = zero-gain j ∷ zero-gain j ∷ zero-gain j ∷ [];
+      «table_select» = window-cut e 1 5 17 refl j ∷ window-cut e 6 5 12 refl j ∷ window-cut e 11 5 7 refl j ∷ [];
+      «region0_count» = window-cut e 16 4 3 refl j;
+      «region1_count» = window-last e 20 3 refl j;
       preflag = k .preflag;
-      scale = k .scale;
-      count1 = k .count1;
+      «scalefac_scale» = k .«scalefac_scale»;
+      «count1table_select» = k .«count1table_select»;
     }
 
 pub long-record-spec : {M : Type 1} → statement M

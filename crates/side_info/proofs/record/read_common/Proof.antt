@@ -6,7 +6,7 @@ use native.Mathlib.Omega.{arith}
 use borrow.Author.Needs.{needs}
 use Rattle.side_info.proofs.Cuts.{nine-below}
 use Rattle.side_info.proofs.Fields.{compress-there, common-read}
-use Rattle.records.proofs.Widths.{width}
+use Rattle.record_check.proofs.Widths.{width}
 use Rattle.side_info.proofs.record.read_common.Statement.{statement}
 use Rattle.side_info.proofs.record.read_common.Tie as tie
 

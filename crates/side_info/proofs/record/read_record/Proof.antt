@@ -7,7 +7,7 @@ use native.Mathlib.Omega.{arith}
 use borrow.Author.Needs.{needs}
 use Rattle.standard.specs.Bits.{fieldAt}
 use Rattle.side_info.specs.Parts.{PartsAt}
-use Rattle.records.proofs.Widths.{width}
+use Rattle.record_check.proofs.Widths.{width}
 use Rattle.side_info.proofs.record.read_record.Statement.{statement}
 use Rattle.side_info.proofs.record.read_record.Tie as tie
 

@@ -1,38 +1,41 @@
 -- `side_info::record::switched_record` meets its contract: each field is cut out of the window's bits at its place; the regions go by the
--- block type, and a gain is the float of its three bits.
+-- shape, and a gain is the float of its three bits.
 -- Assumes nothing.
-use mathlib.Core.Path.{refl}
+use mathlib.Core.Path.{refl, ap, _∙_}
 use mathlib.Core.List.{[], _∷_}
 use borrow.Author.Needs.{needs}
-use Rattle.standard.specs.Record.{gainOf, switchedOf}
+use Rattle.standard.specs.Record.{gainOf, region0Of, region1Of, switchedOf}
 use Rattle.side_info.specs.Parts.{commonOf}
 use Rattle.side_info.proofs.Fields.{window-cut, window-last}
 use Rattle.side_info.proofs.record.switched_record.Statement.{statement}
 use Rattle.side_info.proofs.record.switched_record.Tie as tie
 
-cast-t10 : tie.Need-cast-t10
-cast-t10 c = search needs
+cast-t11 : tie.Need-cast-t11
+cast-t11 c = search needs
 
-int-to-float-t11 : tie.Need-int-to-float-t11
-int-to-float-t11 c = search needs
+int-to-float-t12 : tie.Need-int-to-float-t12
+int-to-float-t12 c = search needs
 
-cast-t14 : tie.Need-cast-t14
-cast-t14 c = search needs
+cast-t15 : tie.Need-cast-t15
+cast-t15 c = search needs
 
-int-to-float-t15 : tie.Need-int-to-float-t15
-int-to-float-t15 c = search needs
+int-to-float-t16 : tie.Need-int-to-float-t16
+int-to-float-t16 c = search needs
 
-cast-t17 : tie.Need-cast-t17
-cast-t17 c = search needs
+cast-t18 : tie.Need-cast-t18
+cast-t18 c = search needs
 
-int-to-float-t18 : tie.Need-int-to-float-t18
-int-to-float-t18 c = search needs
+int-to-float-t19 : tie.Need-int-to-float-t19
+int-to-float-t19 c = search needs
 
-cast-t17-2 : tie.Need-cast-t17-2
-cast-t17-2 c = search needs
+cast-t18-2 : tie.Need-cast-t18-2
+cast-t18-2 c = search needs
 
-cast-t10-2 : tie.Need-cast-t10-2
-cast-t10-2 c = search needs
+cast-t11-2 : tie.Need-cast-t11-2
+cast-t11-2 c = search needs
+
+shape-of-requires : tie.Need-shape-of-requires
+shape-of-requires c κs = search needs
 
 first-region-requires : tie.Need-first-region-requires
 first-region-requires c κs = search needs
@@ -45,33 +48,35 @@ unfolding switchedOf commonOf
 returns c =
     λ mpeg1 s at e j.
     let k = e .common j in
+    let shape = c .before .before .shape-of .ensures in
     record {
-      length = k .length;
-      pairs = k .pairs;
-      gain = k .gain;
-      compress = k .compress;
-      block = c .before .before .before .before .before .args .block;
-      gains = gainOf (window-cut e 14 3 6 refl j) ∷ gainOf (window-cut e 17 3 3 refl j) ∷ gainOf (window-last e 20 3 refl j) ∷ [];
-      tables = window-cut e 4 5 14 refl j ∷ window-cut e 9 5 9 refl j ∷ 0 ∷ [];
-      region0 = c .before .first-region .ensures j;
-      region1 = c .second-region .ensures j;
+      «part2_3_length» = k .«part2_3_length»;
+      «big_values» = k .«big_values»;
+      «global_gain» = k .«global_gain»;
+      «scalefac_compress» = k .«scalefac_compress»;
+      «block_type» = c .before .before .before .before .before .before .args .block;
+      «subblock_gain» = gainOf (window-cut e 14 3 6 refl j) ∷ gainOf (window-cut e 17 3 3 refl j) ∷ gainOf (window-last e 20 3 refl j) ∷ [];
+      «table_select» = window-cut e 4 5 14 refl j ∷ window-cut e 9 5 9 refl j ∷ 0 ∷ [];
+      «region0_count» = (c .before .first-region .ensures ∙ ap region0Of shape) j;
+      «region1_count» = (c .second-region .ensures ∙ ap region1Of shape) j;
       preflag = k .preflag;
-      scale = k .scale;
-      count1 = k .count1;
+      «scalefac_scale» = k .«scalefac_scale»;
+      «count1table_select» = k .«count1table_select»;
     }
 
 pub switched-record-spec : {M : Type 1} → statement M
 switched-record-spec =
     tie.close
     (tie.spec
-    cast-t10
-    int-to-float-t11
-    cast-t14
-    int-to-float-t15
-    cast-t17
-    int-to-float-t18
-    cast-t17-2
-    cast-t10-2
+    cast-t11
+    int-to-float-t12
+    cast-t15
+    int-to-float-t16
+    cast-t18
+    int-to-float-t19
+    cast-t18-2
+    cast-t11-2
+    shape-of-requires
     first-region-requires
     second-region-requires
     returns)

@@ -36,7 +36,7 @@ word-requires c κs = search needs
 cast-begin : tie.Need-cast-begin
 cast-begin c =
     let d = c .before .before .before .before .before .before in
-    let h : d .layout-of .result .begin ≤ 9 = d .layout-of .ensures .begin in
+    let h : d .layout-of .result .«main_data_begin» ≤ 9 = d .layout-of .ensures .begin-few in
     omega (arith, nine-below _ _ h (c .word .ensures))
 
 add-read-shares : tie.Need-add-read-shares

@@ -4,7 +4,7 @@
 use Prim.Native.Nat.{_-_}
 use native.Mathlib.Omega.{arith}
 use borrow.Author.Needs.{needs}
-use Rattle.records.proofs.Widths.{width}
+use Rattle.record_check.proofs.Widths.{width}
 use Rattle.side_info.proofs.Loops.{RecordsLoop, records-begin, records-stop, records-turn, records-end}
 use Rattle.side_info.proofs.slot_records.read_records.Statement.{statement}
 use Rattle.side_info.proofs.slot_records.read_records.Tie as tie

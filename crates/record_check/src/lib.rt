@@ -1,0 +1,33 @@
+// Which records and side information bytes read to; how side information is laid out, and what its fields are given.
+use crate::checks::fits_record;
+use crate::checks::fits_side;
+use derived::is_mpeg1;
+use derived::is_two;
+use standard::FrameHeader;
+use standard::SideInfo;
+use standard::SlotRecord;
+ghost use mathlib.Core.Path.{_≡_};
+ghost use Rattle.standard.specs.Header.{isMpeg1};
+ghost use Rattle.standard.specs.Record.{isRecord};
+ghost use Rattle.standard.specs.SideInfo.{isSide};
+
+pub mod checks;
+pub mod given;
+pub mod layout;
+
+// Whether some bits read to a slot's record, under a header.
+pub fn is_record(h: FrameHeader, r: SlotRecord) -> bool
+    ensures { λ x. ⌜ x ≡ isRecord (isMpeg1 (h .version)) r ⌝ }
+{
+    let version = h.version;
+    fits_record(is_mpeg1(version), r)
+}
+
+// Whether some bytes read to side information, under a header.
+pub fn is_side_info(h: FrameHeader, i: SideInfo) -> bool
+    ensures { λ x. ⌜ x ≡ isSide h i ⌝ }
+{
+    let version = h.version;
+    let channels = h.channels;
+    fits_side(is_mpeg1(version), is_two(channels), i)
+}
