@@ -2,7 +2,7 @@
 ghost use mathlib.Core.Path.{_≡_};
 ghost use Prim.Native.Nat.{_-_, _<_, min};
 ghost use lib.ListN.{getD};
-ghost use Rattle.standard.specs.Bits.{bitAt, fieldAt};
+ghost use Rattle.standard.specs.Bits.{bitAt, «one», fieldAt};
 
 // The bit at a place; false past the end.
 pub fn bit(s: &[u8], at: usize) -> bool
@@ -43,6 +43,16 @@ pub fn field(s: &[u8], at: usize, n: usize) -> u16
     let i = at / 8;
     let word = byte(s, i) * 65536 + byte(s, i + 1) * 256 + byte(s, i + 2);
     ((word >> (24 - at % 8 - m)) % (1u32 << m)) as u16
+}
+
+// 1 for a set bit, 0 for one that is not.
+pub fn one(x: bool) -> usize
+    ensures { λ r. ⌜ r ≡ «one» x ⌝ }
+{
+    if x {
+        return 1;
+    }
+    0
 }
 
 // How many bits are left from one place up to another.

@@ -13,6 +13,7 @@ mod words;
 use derived::is_two;
 use derived::number_of;
 use frame::process_frame;
+use header::no_header;
 use header::read_frame_header;
 use input::Held;
 use input::blank;
@@ -32,13 +33,10 @@ use main_data::read_slots;
 use reorder::reorder;
 use reservoir::emptied;
 use side_info::read_side_info;
-use standard::BitRate;
-use standard::Channels;
-use standard::Emphasis;
+use standard::FRAME_NUMBERS;
 use standard::FrameAnswer;
 use standard::FrameHeader;
 use standard::HeaderAnswer;
-use standard::MpegVersion;
 use standard::Reservoir;
 use standard::SampleRate;
 use standard::SideInfo;
@@ -171,21 +169,6 @@ fn run_frame(
 }
 
 // ---- calls that take a header and side information
-// What no bytes read to.
-fn no_header() -> FrameHeader {
-    FrameHeader {
-        version: MpegVersion::Mpeg1,
-        crc: false,
-        bitrate: BitRate::Kbps8,
-        rate: SampleRate::Hz8000,
-        padding: false,
-        channels: Channels::Mono,
-        copyright: false,
-        original: false,
-        emphasis: Emphasis::NoEmphasis,
-    }
-}
-
 fn header_in(frame: &[u8]) -> FrameHeader {
     match read_frame_header(frame) {
         HeaderAnswer::Header(h) => h,
@@ -442,7 +425,7 @@ fn walk(text: &[u8], last: &mut [u8], bytes: &mut [u8], numbers: &mut [i32], out
         frame: 0,
         stated: 0,
         bytes: 4096,
-        numbers: 2304,
+        numbers: FRAME_NUMBERS,
         slot: 0,
         big_values: 0,
         made_up: MadeUp::Nothing,
@@ -470,7 +453,7 @@ fn main() {
     let mut text = io::large_buffer();
     let mut last = [0u8; 2048];
     let mut bytes = io::buffer();
-    let mut numbers = [0i32; 2304];
+    let mut numbers = [0i32; FRAME_NUMBERS];
     let mut out = io::large_buffer();
     let filled = fill(STDIN_FILENO, &mut text, blank());
     let c = filled.held;

@@ -3,11 +3,12 @@ pub mod trees;
 
 use bits::bit;
 use bits::left;
+use bits::one;
 use standard::Codeword;
 ghost use mathlib.Core.Path.{_≡_};
 ghost use Prim.Native.Nat.{_+_, _-_, _*_, _/_, _%_, _≤_, _<_, min};
 ghost use lib.ListN.{length, getD};
-ghost use Rattle.standard.specs.Bits.{«one», fieldAt, between};
+ghost use Rattle.standard.specs.Bits.{fieldAt, between};
 ghost use Rattle.standard.specs.Codes.{escapeWidth};
 ghost use Rattle.codes.specs.Walk.{«start», lookedUp};
 ghost use Rattle.codes.specs.Along.{Along};
@@ -133,15 +134,6 @@ fn descend(trees: &[u16], size: usize, from: usize, s: &[u8], at: usize) -> Desc
         left -= 1;
     }
     Descent { link, left }
-}
-
-fn one(x: bool) -> usize
-    ensures { λ r. ⌜ r ≡ «one» x ⌝ }
-{
-    if x {
-        return 1;
-    }
-    0
 }
 
 // The next codeword of a table, from the bit place `at` on and not past `end`: by four bytes at once, whatever stands past `end`, since

@@ -13,7 +13,7 @@ use lib.IntN.{ℤ, pos, natAbs}
 use denote.Ref.{now}
 use lib.ListN.{length, getD, take, replicate}
 use Rattle.standard.specs.Told.{told}
-use Rattle.standard.specs.ToldLaws.{both-of, both, passed}
+use Rattle.standard.specs.ToldLaws.{both-of, both, passed, clash}
 use Rattle.standard.specs.RefusalsLaws.{apart}
 use Rattle.standard.specs.Written.{Bytes}
 use Rattle.standard.specs.RowsLaws.{every, every-at, every-append}
@@ -24,8 +24,7 @@ use Rattle.standard.specs.SideInfo.{isSide, sideOf}
 use Rattle.standard.specs.SideBytes.{side-known}
 use Rattle.standard.specs.Numbers.{padded}
 use Rattle.standard.specs.NumbersLaws.{small}
-use Rattle.standard.specs.Slots.{Outcome, stopped, holds, slotTold}
-use Rattle.standard.specs.SlotsLaws.{startOf, records, partOf, ownOf}
+use Rattle.standard.specs.Slots.{Outcome, stopped, holds, slotTold, startOf, records, partOf, ownOf}
 use Rattle.standard.specs.SlotBounds.{Small, slot-small, start-le}
 use Rattle.standard.specs.Reservoir.{reservoirAfter, emptied as nothing}
 use Rattle.standard.specs.Frame.{Step, noStep, shortStep, fullStep, FrameRead}
@@ -38,7 +37,7 @@ use Rattle.standard.specs.declared.FrameAnswer.{FrameAnswer}
 use Rattle.standard.specs.declared.Verdict.the-variants.{Accepted}
 use Rattle.standard.specs.declared.Refusal.the-variants.{MissingBits}
 use Rattle.demands.proofs.Calls.{slotSaid, FrameStep, frame, reservoir, numbersAfter, SlotsCall, slotsHeader, slotsInfo, mainData, slotsNumbersAfter, SideInfoCall, MainSizeCall, EmptiedCall}
-use Rattle.demands.proofs.Stored.{unlike, Answered, stored-is, by-said, outcomesOf, slots-answered, each-slot, stepOf, way-of, frame-answered, each-of-frame}
+use Rattle.demands.proofs.Stored.{Answered, stored-is, by-said, outcomesOf, slots-answered, each-slot, stepOf, way-of, frame-answered, each-of-frame}
 use Rattle.demands.proofs.Records.{accepted-is}
 use Rattle.standard.specs.declared.SlotOutcome.the-variants.{Read}
 
@@ -68,7 +67,7 @@ each-small part e j = leb-true _ _ (every-at small (pos 0) part refl e j)
 
 outcome-modest : (o : Outcome) (k : ℕ) (d : List ℤ) → Small o → slotTold o .outcome ≡ Read k → Modest k (ownOf o d)
 unfolding slotTold ownOf
-outcome-modest (stopped r) k d s e = unlike (cc)
+outcome-modest (stopped r) k d s e = clash cc
 outcome-modest (holds long short vs) k d s e =
     let m : length vs ≡ k = cc in
     record { at-most = omega (arith, s .count, m); magnitudes = each-small _ (take-small 576 (padded vs) (padded-small vs (s .sizes))) }
@@ -77,7 +76,7 @@ outcome-modest (holds long short vs) k d s e =
 slot-modest : (os : List Outcome) {answers : List SlotAnswer} {d left : List ℤ} → Answered os answers d left → ((n : ℕ) → Small (getD os n (stopped MissingBits)))
     → (n k : ℕ) → slotSaid answers n .outcome ≡ Read k → Modest k (partOf (576 * n) left)
 slot-modest os a s n k e =
-    let b = by-said os a n e (λ z. unlike (cc)) in
+    let b = by-said os a n e (λ z. clash cc) in
     subst (Modest k) (sym (stored-is os a n (b .0))) (outcome-modest (getD os n (stopped MissingBits)) k _ (s n) (b .1))
 
 pub slots-modest : (c : SlotsCall) (n k : ℕ) → slotSaid (c .answer .slots) n .outcome ≡ Read k → Modest k (partOf (576 * n) (slotsNumbersAfter c))

@@ -34,7 +34,7 @@ use Rattle.codes.proofs.trees.trees.Kinds as trees-kinds
 use Rattle.codes.proofs.lookup.Reads as lookup
 use Rattle.codes.proofs.lookup.Kinds as lookup-kinds
 use Rattle.standard.specs.Bits.{between}
-use Rattle.standard.specs.SlotsLaws.{lackingAnswer}
+use Rattle.standard.specs.Slots.{lackingSlot}
 use Rattle.standard.specs.declared.FrameHeader.{FrameHeader}
 use Rattle.standard.specs.declared.SideInfo.{SideInfo}
 use Rattle.standard.specs.declared.SlotRecord.{SlotRecord}
@@ -44,7 +44,7 @@ use Rattle.demands.proofs.Call.{Call}
 
 -- what the n-th of the slots' answers says; a frame has its slots first, and any other is said to be lacking
 abbrev pub slotSaid : List SlotAnswer → ℕ → SlotAnswer
-slotSaid slots n = getD slots n lackingAnswer
+slotSaid slots n = getD slots n lackingSlot
 
 -- ---- process_frame(frame, bytes, reservoir, numbers)
 abbrev pub FrameStep : Type 0

@@ -10,7 +10,7 @@ use Prim.Native.Nat.{ℕ}
 use lib.Dec.{eqb}
 use lib.IntN.{ℤ}
 use lib.ListN.{length, getD}
-use Rattle.standard.specs.ToldLaws.{never}
+use Rattle.standard.specs.ToldLaws.{never, clash}
 use Rattle.standard.specs.Refusals.{numberOf}
 use Rattle.standard.specs.Codes.{entry, starts, decode, published}
 use Rattle.standard.specs.CodesLaws.{In, complete, one-reading}
@@ -23,7 +23,7 @@ use Rattle.standard.specs.declared.Refusal.the-variants.{MissingBits, NoCodewor
 use Rattle.codes.specs.Walk.{lookedUp}
 use Rattle.codes.proofs.Shown.{looked-up}
 use Rattle.demands.proofs.Calls.{slotSaid, TreesCall, LookupCall, lookupTrees, lookupTable, lookupBits, SlotsCall, slotsHeader, slotsInfo, mainData, FrameStep}
-use Rattle.demands.proofs.Stored.{unlike, Answered, by-said, outcomesOf, slots-answered, each-slot, stepOf, frame-answered, each-of-frame}
+use Rattle.demands.proofs.Stored.{Answered, by-said, outcomesOf, slots-answered, each-slot, stepOf, frame-answered, each-of-frame}
 use Rattle.standard.specs.declared.SlotOutcome.the-variants.{NotRead}
 
 -- ---- a lookup in the trees that `trees` answers
@@ -41,11 +41,11 @@ module _ (t : TreesCall) (c : LookupCall) (lent : lookupTrees c ≡ t .answer) w
 never-said : (o : Outcome) → allowed (isOther 25) o ≡ true → slotTold o .outcome ≡ NotRead NoCodeword → ⊥
 unfolding allowed isOther slotTold
 never-said (stopped r) a e = let k : numberOf r ≡ 25 = cc in never (sym (ap (λ (n : ℕ). not (eqb n 25)) k) ∙ a)
-never-said (holds long short vs) a e = unlike (cc)
+never-said (holds long short vs) a e = clash cc
 
 slot-never : (os : List Outcome) {answers : List SlotAnswer} {d left : List ℤ} → Answered os answers d left
     → ((n : ℕ) → allowed (isOther 25) (getD os n (stopped MissingBits)) ≡ true) → (n : ℕ) → slotSaid answers n .outcome ≡ NotRead NoCodeword → ⊥
-slot-never os a ok n e = never-said (getD os n (stopped MissingBits)) (ok n) (by-said os a n e (λ z. unlike (cc)) .1)
+slot-never os a ok n e = never-said (getD os n (stopped MissingBits)) (ok n) (by-said os a n e (λ z. clash cc) .1)
 
 abbrev Codeworded : Outcome → Type 0
 Codeworded o = allowed (isOther 25) o ≡ true

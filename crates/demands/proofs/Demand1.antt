@@ -14,11 +14,10 @@ use Rattle.standard.specs.Told.{Told, refused, told, toldOr, verdictOf}
 use Rattle.standard.specs.Refusals.{Answers}
 use Rattle.standard.specs.RefusalsLaws.{apart, unlike, why-is}
 use Rattle.standard.specs.Numbers.{Numbers, halted, got}
-use Rattle.standard.specs.Slots.{Outcome, numbersFrom, SlotsRead}
-use Rattle.standard.specs.SlotsLaws.{partOf}
+use Rattle.standard.specs.Slots.{Outcome, numbersFrom, SlotsRead, partOf}
 use Rattle.standard.specs.Reservoir.{bytesAfter as bytesKept, reservoirAfter, Turn, short, reached, turnVerdict, turnKept, Turned}
-use Rattle.standard.specs.Frame.{Step, noStep, shortStep, fullStep, FrameRead}
-use Rattle.standard.specs.StepLaws.{Way, refusedWay, shortWay, fullWay, mainOf}
+use Rattle.standard.specs.Frame.{Step, noStep, shortStep, fullStep, FrameRead, mainOf}
+use Rattle.standard.specs.StepLaws.{Way, refusedWay, shortWay, fullWay}
 use Rattle.standard.specs.declared.Reservoir.{Reservoir}
 use Rattle.standard.specs.declared.FrameAnswer.{FrameAnswer}
 use Rattle.standard.specs.declared.ReservoirAnswer.{ReservoirAnswer}

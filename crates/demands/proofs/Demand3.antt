@@ -12,19 +12,20 @@ use native.Mathlib.Decide.{decLt}
 use native.Mathlib.Omega.{arith}
 use lib.IntN.{ℤ}
 use lib.ListN.{length}
+use Rattle.standard.specs.ToldLaws.{clash}
 use Rattle.standard.specs.Told.{told, toldOr, verdictOf}
 use Rattle.standard.specs.Refusals.{numberOf}
 use Rattle.standard.specs.Header.{isHeader}
 use Rattle.standard.specs.SideInfo.{isSide}
-use Rattle.standard.specs.Slots.{Outcome, stopped, holds, slotsOf, slotTold, lackingSlot, slotsTold, numbersFrom, readSlots}
-use Rattle.standard.specs.SlotsLaws.{startOf, records, length-slots, outcomeOf, exactly-missing, same-outcome, partOf, ownOf, read-call}
+use Rattle.standard.specs.Slots.{Outcome, stopped, holds, slotsOf, slotTold, lackingSlot, slotsTold, numbersFrom, readSlots, startOf, records, outcomeOf, partOf, ownOf}
+use Rattle.standard.specs.SlotsLaws.{length-slots, exactly-missing, same-outcome, read-call}
 use Rattle.standard.specs.SlotBounds.{slots-le}
 use Rattle.standard.specs.declared.FrameHeader.{FrameHeader}
 use Rattle.standard.specs.declared.SideInfo.{SideInfo}
 use Rattle.standard.specs.declared.SlotAnswer.{SlotAnswer}
 use Rattle.standard.specs.declared.Refusal.the-variants.{MissingBits}
 use Rattle.demands.proofs.Calls.{slotSaid, SlotsCall, slotsHeader, slotsInfo, mainData, slotsNumbers, slotsNumbersAfter}
-use Rattle.demands.proofs.Stored.{unlike, Answered, said-is, stored-is, lacking-said, lacking-stays}
+use Rattle.demands.proofs.Stored.{Answered, said-is, stored-is, lacking-said, lacking-stays}
 use Rattle.standard.specs.declared.SlotOutcome.the-variants.{NotRead}
 use Rattle.standard.specs.declared.Verdict.the-variants.{Accepted}
 
@@ -32,7 +33,7 @@ use Rattle.standard.specs.declared.Verdict.the-variants.{Accepted}
 missing-said : (o : Outcome) → slotTold o .outcome ≡ NotRead MissingBits → o ≡ stopped MissingBits
 unfolding slotTold
 missing-said (stopped r) e = let k : r ≡ MissingBits = cc in ap stopped k
-missing-said (holds long short vs) e = unlike (cc)
+missing-said (holds long short vs) e = clash cc
 
 says-missing : (o : Outcome) → o ≡ stopped MissingBits → slotTold o .outcome ≡ NotRead MissingBits
 unfolding slotTold

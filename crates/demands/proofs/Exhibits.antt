@@ -24,8 +24,8 @@ use Rattle.standard.specs.Record.{shapeOf, absent, recordOf, isRecord}
 use Rattle.standard.specs.RecordBits.{record-known}
 use Rattle.standard.specs.SideInfo.{isSide}
 use Rattle.standard.specs.SideLaws.{slot-record}
-use Rattle.standard.specs.Slots.{Outcome, slotsOf, readSlots, slotsTold, numbersFrom}
-use Rattle.standard.specs.SlotsLaws.{read-call, records}
+use Rattle.standard.specs.Slots.{Outcome, slotsOf, readSlots, slotsTold, numbersFrom, records}
+use Rattle.standard.specs.SlotsLaws.{read-call}
 use Rattle.standard.specs.SlotsLaws as slots-laws
 use Rattle.standard.specs.ReservoirLaws.{few-lent}
 use Rattle.standard.specs.ReorderLaws as reorder-laws

@@ -15,8 +15,8 @@ use Rattle.standard.specs.ToldLaws.{either-way}
 use Rattle.standard.specs.Header.{headerOf}
 use Rattle.standard.specs.Slots.{Outcome, slotsTold, numbersFrom}
 use Rattle.standard.specs.Reservoir.{bytesAfter as bytesKept, reservoirAfter}
-use Rattle.standard.specs.Frame.{Step, noStep, shortStep, fullStep}
-use Rattle.standard.specs.StepLaws.{Way, refusedWay, shortWay, fullWay, mainOf, call-way}
+use Rattle.standard.specs.Frame.{Step, noStep, shortStep, fullStep, mainOf}
+use Rattle.standard.specs.StepLaws.{Way, refusedWay, shortWay, fullWay, call-way}
 use Rattle.standard.specs.declared.FrameHeader.{FrameHeader}
 use Rattle.front_end.specs.Calls.{numberTold, rowsAfter, frameStep, frameTold, FrameDone, SlotsDone, ReorderDone}
 use Rattle.front_end.specs.declared.FrameTold.{FrameTold}

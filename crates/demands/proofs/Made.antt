@@ -10,8 +10,7 @@ use Rattle.standard.specs.Told.{verdictOf, toldOr}
 use Rattle.standard.specs.Refusals.{toldHeader, Answers}
 use Rattle.standard.specs.Header.{headerOf}
 use Rattle.standard.specs.SideInfo.{sideOf, noSide}
-use Rattle.standard.specs.Slots.{Outcome, stopped, holds, slotTold, lackingSlot, slotsTold, numbersFrom, readSlots}
-use Rattle.standard.specs.SlotsLaws.{lackingAnswer}
+use Rattle.standard.specs.Slots.{Outcome, stopped, holds, slotTold, lackingSlot, slotsTold, numbersFrom, readSlots, lackingSlot}
 use Rattle.standard.specs.Reservoir.{reservoirAfter, bytesAfter, turnIn, turnVerdict, turnKept}
 use Rattle.standard.specs.Frame.{frameCall}
 use Rattle.standard.specs.Reorder.{reorderOf}
@@ -47,11 +46,10 @@ answer-told (stopped r) = refl
 answer-told (holds long short vs) = refl
 
 unfoldable pub answersOf : List Outcome → ℕ → List SlotAnswer
-answersOf [] n = replicate n lackingAnswer
+answersOf [] n = replicate n lackingSlot
 answersOf (o ∷ os) n = answerOf o ∷ answersOf os n
 
-lacking-told : (n : ℕ) → replicate n lackingAnswer ≡ replicate n lackingSlot
-unfolding lackingSlot
+lacking-told : (n : ℕ) → replicate n lackingSlot ≡ replicate n lackingSlot
 lacking-told zero = refl
 lacking-told (suc n) = ap (λ (l : List SlotAnswer). lackingSlot ∷ l) (lacking-told n)
 

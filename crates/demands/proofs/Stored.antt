@@ -10,12 +10,12 @@ use lib.IntN.{ℤ}
 use lib.ListN.{length, getD, take, drop}
 use lib.Seq.{drop-drop}
 use Rattle.standard.specs.Told.{Told, toldOr, refused}
-use Rattle.standard.specs.ToldLaws.{both-of}
-use Rattle.standard.specs.Slots.{Outcome, stopped, holds, slotTold, lackingSlot, slotsTold, numbersFrom, readSlots}
-use Rattle.standard.specs.SlotsLaws.{told-at, lacking-at, partOf, ownOf, own-numbers, past-slots, outcomeOf, few-numbers, made-up-call, read-call}
+use Rattle.standard.specs.ToldLaws.{both-of, clash}
+use Rattle.standard.specs.Slots.{Outcome, stopped, holds, slotTold, lackingSlot, slotsTold, numbersFrom, readSlots, partOf, ownOf, outcomeOf}
+use Rattle.standard.specs.SlotsLaws.{told-at, lacking-at, own-numbers, past-slots, few-numbers, made-up-call, read-call}
 use Rattle.standard.specs.SlotBounds.{read-room}
-use Rattle.standard.specs.Frame.{Step, noStep, shortStep, fullStep, frameCall}
-use Rattle.standard.specs.StepLaws.{Way, refusedWay, shortWay, fullWay, mainOf, Entire, call-way, call-room}
+use Rattle.standard.specs.Frame.{Step, noStep, shortStep, fullStep, frameCall, mainOf}
+use Rattle.standard.specs.StepLaws.{Way, refusedWay, shortWay, fullWay, Entire, call-way, call-room}
 use Rattle.standard.specs.Header.{isHeader}
 use Rattle.standard.specs.SideInfo.{isSide}
 use Rattle.standard.specs.declared.FrameHeader.{FrameHeader}
@@ -27,20 +27,16 @@ use Rattle.standard.specs.declared.SlotOutcome.{SlotOutcome}
 use Rattle.standard.specs.declared.SlotOutcome.the-variants.{NotRead, Lacking}
 use Rattle.standard.specs.declared.Refusal.{Refusal}
 
--- two constructors are not the same
-pub unlike : {A : Type 0} → _≡_ {A = ℕ} 0 1 → A
-unlike z = let w : ⊥ = omega arith in absurd w
-
 -- a slot that is said to be refused left what stood there
 refused-own : (o : Outcome) (k : Refusal) (d : List ℤ) → slotTold o .outcome ≡ NotRead k → ownOf o d ≡ d
 unfolding ownOf slotTold
 refused-own (stopped r) k d e = refl
-refused-own (holds long short vs) k d e = unlike (cc)
+refused-own (holds long short vs) k d e = clash cc
 
 not-lacking : (o : Outcome) → slotTold o .outcome ≡ Lacking → ⊥
 unfolding slotTold
-not-lacking (stopped r) e = unlike (cc)
-not-lacking (holds long short vs) e = unlike (cc)
+not-lacking (stopped r) e = clash cc
+not-lacking (holds long short vs) e = clash cc
 
 -- outcomes answered, and their numbers stored in lent ones that have room for them
 pub record Answered (os : List Outcome) (answers : List SlotAnswer) (d left : List ℤ) : Type 0 where
@@ -71,7 +67,6 @@ module _ (os : List Outcome) {answers : List SlotAnswer} {d left : List ℤ} (a 
 
   -- what is said decides: lacking, or by the slot's own outcome
   pub by-said : (n : ℕ) {x : SlotOutcome} → slotSaid answers n .outcome ≡ x → (x ≡ Lacking → ⊥) → (n < length os) × (slotTold (getD os n (stopped MissingBits)) .outcome ≡ x)
-  unfolding lackingSlot
   by-said n e f =
       elim (decLt n (length os)) [
         | yes l ↦ (l, sym (ap (λ (t : SlotAnswer). t .outcome) (said-is n l)) ∙ e)
@@ -80,7 +75,7 @@ module _ (os : List Outcome) {answers : List SlotAnswer} {d left : List ℤ} (a 
 
   pub refused-stays : (n : ℕ) (k : Refusal) → slotSaid answers n .outcome ≡ NotRead k → partOf (576 * n) left ≡ partOf (576 * n) d
   refused-stays n k e =
-      let b = by-said n e (λ z. unlike (cc)) in
+      let b = by-said n e (λ z. clash cc) in
       stored-is n (b .0) ∙ refused-own (getD os n (stopped MissingBits)) k (partOf (576 * n) d) (b .1)
 
   pub said-lacking : (n : ℕ) → slotSaid answers n .outcome ≡ Lacking → partOf (576 * n) left ≡ partOf (576 * n) d

@@ -1,5 +1,6 @@
 // What follows from a declared value: what a header's fields say, the sizes and counts of its frame, the shape of a record, the
 // number of a refusal.
+use bits::one;
 use standard::BitRate;
 use standard::BlockType;
 use standard::Channels;
@@ -10,7 +11,6 @@ use standard::SampleRate;
 use standard::Shape;
 ghost use mathlib.Core.Path.{_≡_};
 ghost use Prim.Native.Nat.{_*_, _/_};
-ghost use Rattle.standard.specs.Bits.{«one»};
 ghost use Rattle.standard.specs.Record.{shapeBy};
 ghost use Rattle.standard.specs.Refusals.{numberOf};
 ghost use Rattle.standard.specs.Header.{«bps», «hz», isMpeg1, isTwo, isIntensity};
@@ -115,15 +115,6 @@ pub fn shape_of(b: BlockType) -> Shape
 }
 
 // ---- the sizes that follow from a header, one that no bytes read to included
-
-fn one(x: bool) -> usize
-    ensures { λ r. ⌜ r ≡ «one» x ⌝ }
-{
-    if x {
-        return 1;
-    }
-    0
-}
 
 // The bytes of the header with the CRC: 4 or 6.
 pub fn header_size(h: FrameHeader) -> usize

@@ -6,6 +6,7 @@ use crate::walk::Words;
 use crate::walk::flushed;
 use crate::walk::run;
 use libc::STDOUT_FILENO;
+use standard::FRAME_NUMBERS;
 
 // Two digits number the files.
 const FILES: usize = 100;
@@ -35,7 +36,7 @@ fn replay_file(name: [u8; 7], input: i32) -> u64 {
     let mut out = io::large_buffer();
     let mut piece = io::large_buffer();
     let mut bytes = io::buffer();
-    let mut numbers = [0i32; 2304];
+    let mut numbers = [0i32; FRAME_NUMBERS];
     let said = Words {
         on: true,
         many: false,

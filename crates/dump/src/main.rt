@@ -11,12 +11,13 @@ use crate::walk::is_word;
 use crate::walk::read_words;
 use crate::walk::run;
 use libc::STDOUT_FILENO;
+use standard::FRAME_NUMBERS;
 
 fn dump() {
     let mut out = io::large_buffer();
     let mut piece = io::large_buffer();
     let mut bytes = io::buffer();
-    let mut numbers = [0i32; 2304];
+    let mut numbers = [0i32; FRAME_NUMBERS];
     let said = read_words();
     let w = run(&mut out, &mut piece, &mut bytes, &mut numbers, said);
     flushed(&out, w, said);

@@ -16,6 +16,7 @@ use lines::text::put_number;
 use reorder::reorder;
 use standard::FrameAnswer;
 use standard::FrameHeader;
+use standard::SLOT_NUMBERS;
 use standard::Shape;
 use standard::SideInfo;
 use standard::SlotAnswer;
@@ -23,9 +24,6 @@ use standard::SlotOutcome;
 use standard::SlotRecord;
 use standard::Verdict;
 ghost use Prim.Native.Nat.{_<_, _≤_};
-
-// Numbers of a slot.
-const SLOT: usize = 576;
 
 fn put_item(out: &mut [u8], at: usize, n: u64) -> usize {
     let next = put(&mut *out, at, b" ");
@@ -72,8 +70,8 @@ fn put_reordered(
     r: SlotRecord,
     numbers: &[i32],
 ) -> usize {
-    let mut after = [0i32; 576];
-    let end = least(SLOT, numbers.len());
+    let mut after = [0i32; SLOT_NUMBERS];
+    let end = least(SLOT_NUMBERS, numbers.len());
     let mut i = 0usize;
     while i < end {
         after[i] = numbers[i];
@@ -212,7 +210,7 @@ fn put_slots(
             r,
             s,
             place_of(h, n as u8),
-            part(numbers, SLOT * n, SLOT),
+            part(numbers, SLOT_NUMBERS * n, SLOT_NUMBERS),
         );
         n += 1;
     }

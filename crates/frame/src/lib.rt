@@ -3,22 +3,20 @@ use derived::frame_length;
 use derived::header_size;
 use derived::main_size;
 use derived::side_size;
+use header::no_header;
 use header::read_frame_header;
 use main_data::answers::lacking_slots;
 use main_data::read_slots;
 use reservoir::turn;
 use side_info::read_side_info;
 use side_info::side::no_side;
-use standard::BitRate;
-use standard::Channels;
-use standard::Emphasis;
+use standard::FRAME_NUMBERS;
 use standard::FrameAnswer;
 use standard::FrameHeader;
 use standard::HeaderAnswer;
-use standard::MpegVersion;
+use standard::RESERVOIR_BYTES;
 use standard::Refusal;
 use standard::Reservoir;
-use standard::SampleRate;
 use standard::SideInfo;
 use standard::Verdict;
 ghost use mathlib.Core.Path.{_≡_};
@@ -26,6 +24,7 @@ ghost use mathlib.Core.Bool.{true};
 ghost use mathlib.Core.List.{[], map};
 ghost use Prim.Native.Nat.{_≤_};
 ghost use lib.ListN.{length, take};
+ghost use Rattle.standard.specs.Sizes.{reservoirBytes, perFrame};
 ghost use Rattle.standard.specs.Told.{told};
 ghost use Rattle.standard.specs.Header.{headerOf, mainSize, noHeader, isHeader};
 ghost use Rattle.standard.specs.SideInfo.{noSide, isSide};
@@ -33,28 +32,6 @@ ghost use Rattle.standard.specs.Slots.{slotsTold};
 ghost use Rattle.standard.specs.Reservoir.{turnOf};
 ghost use Rattle.standard.specs.Frame.{withTurn, frameOf, frameCall, FrameRead};
 ghost use Rattle.frame.specs.Reasons.{reasonOf};
-
-// Bytes and numbers a reader lends, at least.
-const LENT: usize = 4096;
-
-const NUMBERS: usize = 2304;
-
-// What stands for a header where none is told.
-fn no_header() -> FrameHeader
-    ensures { λ r. ⌜ r ≡ noHeader ⌝ }
-{
-    FrameHeader {
-        version: MpegVersion::Mpeg1,
-        crc: false,
-        bitrate: BitRate::Kbps8,
-        rate: SampleRate::Hz8000,
-        padding: false,
-        channels: Channels::Mono,
-        copyright: false,
-        original: false,
-        emphasis: Emphasis::NoEmphasis,
-    }
-}
 
 // A refused frame tells nothing, and the reservoir stays.
 fn refused(reason: Refusal, reservoir: Reservoir) -> FrameAnswer
@@ -93,7 +70,7 @@ fn with_main(
     reservoir: Reservoir,
     numbers: &mut [i32],
 ) -> FrameAnswer
-    requires { ⌜ (4096 ≤ length (now bytes)) × (reservoir .length ≤ 4096) × (2304 ≤ length (now numbers)) × (isHeader h ≡ true) × (isSide h i ≡ true) × (length (now main) ≡ mainSize h) ⌝ }
+    requires { ⌜ (reservoirBytes ≤ length (now bytes)) × (reservoir .length ≤ reservoirBytes) × (perFrame ≤ length (now numbers)) × (isHeader h ≡ true) × (isSide h i ≡ true) × (length (now main) ≡ mainSize h) ⌝ }
     ensures { λ r. ⌜ FrameRead (now (bytes .entry)) reservoir (now (numbers .entry)) (withTurn h i (turnOf (i .«main_data_begin») (take (reservoir .length) (now (bytes .entry))) (now (main .entry)))) r (now (bytes .exit)) (now (numbers .exit)) ⌝ }
 {
     let length = frame_length(h);
@@ -131,7 +108,7 @@ fn with_header(
     reservoir: Reservoir,
     numbers: &mut [i32],
 ) -> FrameAnswer
-    requires { ⌜ (4096 ≤ length (now bytes)) × (reservoir .length ≤ 4096) × (2304 ≤ length (now numbers)) × (headerOf (now frame) ≡ told h) ⌝ }
+    requires { ⌜ (reservoirBytes ≤ length (now bytes)) × (reservoir .length ≤ reservoirBytes) × (perFrame ≤ length (now numbers)) × (headerOf (now frame) ≡ told h) ⌝ }
     ensures { λ r. ⌜ FrameRead (now (bytes .entry)) reservoir (now (numbers .entry)) (frameOf (now (frame .entry)) (take (reservoir .length) (now (bytes .entry)))) r (now (bytes .exit)) (now (numbers .exit)) ⌝ }
 {
     let a = read_side_info(h, frame);
@@ -158,13 +135,13 @@ pub fn process_frame(
 ) -> FrameAnswer
     ensures { λ r. ⌜ FrameRead (now (bytes .entry)) reservoir (now (numbers .entry)) (frameCall (now (frame .entry)) (now (bytes .entry)) (reservoir .length) (length (now (numbers .entry)))) r (now (bytes .exit)) (now (numbers .exit)) ⌝ }
 {
-    if bytes.len() < LENT {
+    if bytes.len() < RESERVOIR_BYTES {
         return refused(Refusal::UnfitMemory, reservoir);
     }
-    if LENT < reservoir.length {
+    if RESERVOIR_BYTES < reservoir.length {
         return refused(Refusal::UnfitMemory, reservoir);
     }
-    if numbers.len() < NUMBERS {
+    if numbers.len() < FRAME_NUMBERS {
         return refused(Refusal::UnfitMemory, reservoir);
     }
     let a = read_frame_header(frame);

@@ -8,6 +8,7 @@ use lib.Dec.{ltb}
 use lib.IntN.{ℤ}
 use lib.ListN.{length, getD}
 use lib.Seq.{paste}
+use Rattle.standard.specs.Sizes.{perFrame, perSlot}
 use Rattle.standard.specs.Told.{Told, refused, told, pick, verdictOf, toldOr}
 use Rattle.standard.specs.Refusals.{numberOf}
 use Rattle.standard.specs.declared.Verdict.{Verdict}
@@ -90,7 +91,7 @@ under s f = following (headerOf s) (λ (h : FrameHeader). following (sideOf h s)
 -- the slots of a frame from given main data
 unfoldable pub slotsStep : List ℕ → List ℕ → ℕ → ℕ → Told (List Outcome)
 slotsStep s main d room =
-    pick (ltb room 252 || ltb d 2304) (refused UnfitMemory)
+    pick (ltb room 252 || ltb d perFrame) (refused UnfitMemory)
     (under s (λ (h : FrameHeader) (i : SideInfo). readSlots h i main d))
 
 pub record SlotsDone (d : List ℤ) (rows : List ℕ) (t : Told (List Outcome)) (r : ℕ) (numbers : List ℤ) (told-rows : List ℕ) : Type 0 where
@@ -105,7 +106,7 @@ reorderBy h i n d =
 
 unfoldable pub reorderStep : List ℕ → ℕ → List ℤ → Told (List ℤ)
 reorderStep s n d =
-    pick (ltb (length d) 576) (refused UnfitMemory)
+    pick (ltb (length d) perSlot) (refused UnfitMemory)
     (under s (λ (h : FrameHeader) (i : SideInfo). reorderBy h i n d))
 
 pub record ReorderDone (d : List ℤ) (t : Told (List ℤ)) (r : ℕ) (numbers : List ℤ) : Type 0 where

@@ -17,14 +17,17 @@ use main_data::read_slots;
 use reorder::reorder;
 use reservoir::emptied;
 use side_info::read_side_info;
+use standard::FRAME_NUMBERS;
 use standard::FrameHeader;
 use standard::HeaderAnswer;
 use standard::Refusal;
 use standard::Reservoir;
+use standard::SLOT_NUMBERS;
 use standard::Verdict;
 ghost use mathlib.Core.Path.{_≡_};
 ghost use Prim.Native.Nat.{_≤_};
 ghost use lib.ListN.{length};
+ghost use Rattle.standard.specs.Sizes.{perFrame, perSlot};
 ghost use Rattle.standard.specs.Told.{told};
 ghost use Rattle.standard.specs.Header.{headerOf};
 ghost use Rattle.standard.specs.Reservoir.{«emptied»};
@@ -34,9 +37,6 @@ mod rows;
 
 // Numbers a reader lends for the rows of four slots, at least.
 const ROWS: usize = 252;
-
-// For the n-th slot's numbers, 576 each.
-const NUMBERS: usize = 2304;
 
 // What a frame answers: 0 or the number of the refusal, the frame's length, and the reservoir's length for the next frame.
 #[repr(C)]
@@ -98,7 +98,7 @@ fn slots_under(
     numbers: &mut [i32],
     rows: &mut [u16],
 ) -> u8
-    requires { ⌜ (252 ≤ length (now rows)) × (2304 ≤ length (now numbers)) × (headerOf (now frame) ≡ told h) ⌝ }
+    requires { ⌜ (252 ≤ length (now rows)) × (perFrame ≤ length (now numbers)) × (headerOf (now frame) ≡ told h) ⌝ }
     ensures { λ r. ⌜ SlotsDone (now (numbers .entry)) (now (rows .entry)) (slotsStep (now (frame .entry)) (now (main .entry)) (length (now (numbers .entry))) (length (now (rows .entry)))) r (now (numbers .exit)) (now (rows .exit)) ⌝ }
 {
     let a = read_side_info(h, frame);
@@ -123,7 +123,7 @@ pub extern "C" fn front_end_slots(
 ) -> u8
     ensures { λ r. ⌜ SlotsDone (now (numbers .entry)) (now (rows .entry)) (slotsStep (now (frame .entry)) (now (main .entry)) (length (now (numbers .entry))) (length (now (rows .entry)))) r (now (numbers .exit)) (now (rows .exit)) ⌝ }
 {
-    if (rows.len() < ROWS) | (numbers.len() < NUMBERS) {
+    if (rows.len() < ROWS) | (numbers.len() < FRAME_NUMBERS) {
         return number_of(Refusal::UnfitMemory);
     }
     match read_frame_header(frame) {
@@ -143,7 +143,7 @@ pub extern "C" fn front_end_emptied() -> usize
 
 // The reorder under a header and the side information that follows it.
 fn reorder_under(h: FrameHeader, frame: &[u8], slot: usize, numbers: &mut [i32]) -> u8
-    requires { ⌜ (576 ≤ length (now numbers)) × (headerOf (now frame) ≡ told h) ⌝ }
+    requires { ⌜ (perSlot ≤ length (now numbers)) × (headerOf (now frame) ≡ told h) ⌝ }
     ensures { λ r. ⌜ ReorderDone (now (numbers .entry)) (reorderStep (now (frame .entry)) slot (now (numbers .entry))) r (now (numbers .exit)) ⌝ }
 {
     let a = read_side_info(h, frame);
@@ -164,7 +164,7 @@ fn reorder_under(h: FrameHeader, frame: &[u8], slot: usize, numbers: &mut [i32])
 pub extern "C" fn front_end_reorder(frame: &[u8], slot: usize, numbers: &mut [i32]) -> u8
     ensures { λ r. ⌜ ReorderDone (now (numbers .entry)) (reorderStep (now (frame .entry)) slot (now (numbers .entry))) r (now (numbers .exit)) ⌝ }
 {
-    if numbers.len() < 576 {
+    if numbers.len() < SLOT_NUMBERS {
         return number_of(Refusal::UnfitMemory);
     }
     match read_frame_header(frame) {

@@ -17,7 +17,7 @@ ghost use lib.Dec.{leb};
 ghost use lib.ListN.{length};
 ghost use Rattle.standard.specs.Rows.{member};
 ghost use Rattle.standard.specs.Refusals.{toldHeader};
-ghost use Rattle.standard.specs.Header.{«bitrates», «rates», sameBitrate, sameRate, isHeader};
+ghost use Rattle.standard.specs.Header.{«bitrates», «rates», sameBitrate, sameRate, isHeader, noHeader};
 ghost use Rattle.standard.specs.Header.{versionOf, channelsOf, emphasisOf, «fields», lastBytes, secondByte, headerOf};
 
 // ---- reading a header
@@ -246,4 +246,21 @@ pub fn is_header(h: FrameHeader) -> bool
     let bitrate = h.bitrate;
     let rate = h.rate;
     has_bitrate(version, bitrate) && has_rate(version, rate)
+}
+
+// What stands for a header where none is told.
+pub fn no_header() -> FrameHeader
+    ensures { λ r. ⌜ r ≡ noHeader ⌝ }
+{
+    FrameHeader {
+        version: MpegVersion::Mpeg1,
+        crc: false,
+        bitrate: BitRate::Kbps8,
+        rate: SampleRate::Hz8000,
+        padding: false,
+        channels: Channels::Mono,
+        copyright: false,
+        original: false,
+        emphasis: Emphasis::NoEmphasis,
+    }
 }

@@ -6,6 +6,7 @@ use mathlib.Core.List.{List}
 use Prim.Native.Nat.{ℕ, _*_, _≤_}
 use lib.IntN.{ℤ}
 use lib.ListN.{length, take, drop}
+use Rattle.standard.specs.Sizes.{perSlot}
 use Rattle.standard.specs.Bits.{between}
 use Rattle.standard.specs.Numbers.{Numbers, halted, got}
 use Rattle.huffman.specs.declared.HuffmanAnswer.{HuffmanAnswer}
@@ -19,7 +20,7 @@ pairsSaid (Halted r) vs s e = halted r
 pairsSaid (At p) vs s e = got vs (between s p e)
 
 pub record PairsRead (q : Numbers) (n : ℕ) (s : List ℕ) (e : ℕ) (out₀ out : List ℤ) (r : Ended) : Type 0 where
-  pub long : length out ≡ 576
+  pub long : length out ≡ perSlot
   pub same : q ≡ pairsSaid r (take (2 * n) out) s e
   pub kept : drop (2 * n) out ≡ drop (2 * n) out₀
 
@@ -31,7 +32,7 @@ pub record Gave (q : Numbers) (vs : List ℤ) : Type 0 where
 -- the first n numbers were read, at least `from` of them, and those after them stand as before
 pub record Filled (q : Numbers) (from : ℕ) (out₀ out : List ℤ) (n : ℕ) : Type 0 where
   pub low : from ≤ n
-  pub high : n ≤ 576
+  pub high : n ≤ perSlot
   pub gave : Gave q (take n out)
   pub kept : drop n out ≡ drop n out₀
 
@@ -40,5 +41,5 @@ Says q from out₀ out (Uncounted r) = q ≡ halted r
 Says q from out₀ out (Counted n) = Filled q from out₀ out n
 
 pub record NumbersRead (q : Numbers) (from : ℕ) (out₀ out : List ℤ) (r : HuffmanAnswer) : Type 0 where
-  pub long : length out ≡ 576
+  pub long : length out ≡ perSlot
   pub says : Says q from out₀ out r

@@ -6,6 +6,7 @@ use lib.Dec.{ltb}
 use lib.IntN.{ℤ}
 use lib.ListN.{length}
 use lib.Seq.{paste}
+use Rattle.standard.specs.Sizes.{perSlot, mostBigValues}
 use Rattle.standard.specs.Told.{Told, told, pick, refused}
 use Rattle.standard.specs.Numbers.{Reader, Numbers, halted, got, numbersOf, padded}
 use Rattle.standard.specs.declared.SampleRate.{SampleRate}
@@ -17,8 +18,8 @@ use Rattle.huffman.specs.declared.HuffmanAnswer.the-variants.{Counted, U
 -- 576 numbers are asked for, and no more pairs than they hold
 unfoldable pub slotNumbers : Reader → SampleRate → SlotRecord → List Bool → List ℤ → Numbers
 slotNumbers word rate r b d =
-    pick (ltb (length d) 576) (halted UnfitMemory)
-    (pick (ltb 288 (r .«big_values»)) (halted TooManyPairs) (numbersOf word rate r b))
+    pick (ltb (length d) perSlot) (halted UnfitMemory)
+    (pick (ltb mostBigValues (r .«big_values»)) (halted TooManyPairs) (numbersOf word rate r b))
 
 -- what the answer says: the number of a refusal, or how many numbers were read
 abbrev pub toldCount : HuffmanAnswer → Told ℕ
@@ -32,4 +33,4 @@ countOf (got vs b) = told (length vs)
 -- the lent numbers afterwards: of a refused slot as they were
 unfoldable pub numbersAfter : Numbers → List ℤ → List ℤ
 numbersAfter (halted r) d = d
-numbersAfter (got vs b) d = paste d 0 (padded vs) 576
+numbersAfter (got vs b) d = paste d 0 (padded vs) perSlot

@@ -4,11 +4,10 @@ use mathlib.Core.Path.{_≡_, sym, ap, _∙_}
 use mathlib.Core.Bool.{Bool}
 use mathlib.Core.List.{List}
 use Prim.Native.Nat.{ℕ, _≤_, _<_}
-use native.Mathlib.Omega.{arith}
 use borrow.Author.Tests.{lt-ltb, le-ltb}
 use lib.IntN.{ℤ}
 use lib.ListN.{length}
-use Rattle.standard.specs.ToldLaws.{picked, passed}
+use Rattle.standard.specs.ToldLaws.{clash, picked, passed}
 use Rattle.standard.specs.RefusalsLaws.{one-reason}
 use Rattle.standard.specs.Numbers.{Reader, Numbers, halted, numbersOf}
 use Rattle.standard.specs.declared.SampleRate.{SampleRate}
@@ -20,13 +19,10 @@ use Rattle.huffman.specs.declared.HuffmanAnswer.{HuffmanAnswer}
 use Rattle.huffman.specs.declared.HuffmanAnswer.the-variants.{Counted, Uncounted}
 use Rattle.standard.specs.Told.{refused}
 
-unlike : {A : Type 0} → _≡_ {A = ℕ} 0 1 → A
-unlike z = let w : ⊥ = omega arith in absurd w
-
 pub one-count : (a b : HuffmanAnswer) → toldCount a ≡ toldCount b → a ≡ b
 one-count (Counted m) (Counted n) e = let p : m ≡ n = cc in ap Counted p
-one-count (Counted m) (Uncounted q) e = unlike (cc)
-one-count (Uncounted r) (Counted n) e = unlike (cc)
+one-count (Counted m) (Uncounted q) e = clash cc
+one-count (Uncounted r) (Counted n) e = clash cc
 one-count (Uncounted r) (Uncounted q) e = ap Uncounted (one-reason e)
 
 module _ (word : Reader) (rate : SampleRate) (r : SlotRecord) (b : List Bool) (d : List ℤ) where

@@ -6,8 +6,10 @@ use runs::Ended;
 use runs::read_pairs;
 use runs::read_quads;
 use standard::BlockType;
+use standard::MOST_BIG_VALUES;
 use standard::Refusal;
 use standard::Regions;
+use standard::SLOT_NUMBERS;
 use standard::SampleRate;
 use standard::Shape;
 use standard::SlotRecord;
@@ -18,6 +20,7 @@ ghost use Prim.Native.Nat.{_≤_};
 ghost use lib.Dec.{ltb};
 ghost use lib.ListN.{length};
 ghost use lib.Seq.{paste};
+ghost use Rattle.standard.specs.Sizes.{perSlot, mostBigValues};
 ghost use Rattle.standard.specs.Bits.{between};
 ghost use Rattle.standard.specs.Record.{isLong};
 ghost use Rattle.standard.specs.Numbers.{quadTable, regionsBy, regionsOf, numbersOf};
@@ -92,9 +95,9 @@ fn decode(
     s: &[u8],
     at: usize,
     end: usize,
-    out: &mut [i32; 576],
+    out: &mut [i32; SLOT_NUMBERS],
 ) -> HuffmanAnswer
-    requires { ⌜ (r .«big_values» ≤ 288) × (length (now out) ≡ 576) ⌝ }
+    requires { ⌜ (r .«big_values» ≤ mostBigValues) × (length (now out) ≡ perSlot) ⌝ }
     ensures { λ a. ⌜ NumbersRead
         (numbersOf (lookedUp (now (trees .entry))) rate r (between (now (s .entry)) at end))
         0 (now (out .entry)) (now (out .exit)) a ⌝ }
@@ -123,12 +126,12 @@ fn decode(
     }
 }
 
-fn copy_in(src: &[i32; 576], dst: &mut [i32])
-    requires { ⌜ (576 ≤ length (now dst)) × (length (now src) ≡ 576) ⌝ }
-    ensures { λ _. ⌜ now (dst .exit) ≡ paste (now (dst .entry)) 0 (now (src .entry)) 576 ⌝ }
+fn copy_in(src: &[i32; SLOT_NUMBERS], dst: &mut [i32])
+    requires { ⌜ (perSlot ≤ length (now dst)) × (length (now src) ≡ perSlot) ⌝ }
+    ensures { λ _. ⌜ now (dst .exit) ≡ paste (now (dst .entry)) 0 (now (src .entry)) perSlot ⌝ }
 {
     let mut i: usize = 0;
-    while i < 576 {
+    while i < SLOT_NUMBERS {
         dst[i] = src[i];
         i += 1;
     }
@@ -150,13 +153,13 @@ pub fn read_huffman(
     ensures { λ _. ⌜ now (numbers .exit)
         ≡ numbersAfter (slotNumbers (lookedUp (now (trees .entry))) rate r (between (now (s .entry)) at end) (now (numbers .entry))) (now (numbers .entry)) ⌝ }
 {
-    if numbers.len() < 576 {
+    if numbers.len() < SLOT_NUMBERS {
         return HuffmanAnswer::Uncounted(Refusal::UnfitMemory);
     }
-    if r.big_values > 288 {
+    if r.big_values > MOST_BIG_VALUES {
         return HuffmanAnswer::Uncounted(Refusal::TooManyPairs);
     }
-    let mut scratch = [0i32; 576];
+    let mut scratch = [0i32; SLOT_NUMBERS];
     match decode(trees, rate, r, s, at as usize, end as usize, &mut scratch) {
         HuffmanAnswer::Uncounted(why) => HuffmanAnswer::Uncounted(why),
         HuffmanAnswer::Counted { count } => {

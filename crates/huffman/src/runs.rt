@@ -5,9 +5,11 @@ use pairs::quad;
 use standard::Pair;
 use standard::Quad;
 use standard::Refusal;
+use standard::SLOT_NUMBERS;
 ghost use mathlib.Core.Path.{_≡_};
 ghost use Prim.Native.Nat.{_-_, _/_, _≤_};
 ghost use lib.ListN.{length, take};
+ghost use Rattle.standard.specs.Sizes.{perSlot, mostBigValues};
 ghost use Rattle.standard.specs.Bits.{between};
 ghost use Rattle.standard.specs.Numbers.{tableAt, pairs, prepend, quads};
 ghost use Rattle.codes.specs.Walk.{lookedUp};
@@ -42,9 +44,9 @@ pub(crate) fn read_pairs(
     s: &[u8],
     start: usize,
     end: usize,
-    out: &mut [i32; 576],
+    out: &mut [i32; SLOT_NUMBERS],
 ) -> Ended
-    requires { ⌜ (n ≤ 288) × (length (now out) ≡ 576) ⌝ }
+    requires { ⌜ (n ≤ mostBigValues) × (length (now out) ≡ perSlot) ⌝ }
     ensures { λ r. ⌜ PairsRead
         (pairs (lookedUp (now (trees .entry))) (tableAt first second tables) 0 n (between (now (s .entry)) start end))
         n (now (s .entry)) end (now (out .entry)) (now (out .exit)) r ⌝ }
@@ -78,11 +80,11 @@ pub(crate) fn read_quads(
     start: usize,
     end: usize,
     from: usize,
-    out: &mut [i32; 576],
+    out: &mut [i32; SLOT_NUMBERS],
 ) -> HuffmanAnswer
-    requires { ⌜ (from ≤ 576) × (length (now out) ≡ 576) ⌝ }
+    requires { ⌜ (from ≤ perSlot) × (length (now out) ≡ perSlot) ⌝ }
     ensures { λ r. ⌜ NumbersRead
-        (prepend (take from (now (out .entry))) (quads (lookedUp (now (trees .entry))) table ((576 - from) / 4) (between (now (s .entry)) start end)))
+        (prepend (take from (now (out .entry))) (quads (lookedUp (now (trees .entry))) table ((perSlot - from) / 4) (between (now (s .entry)) start end)))
         from (now (out .entry)) (now (out .exit)) r ⌝ }
 {
     let mut at = start;

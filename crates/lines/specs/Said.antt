@@ -4,6 +4,7 @@ use mathlib.Core.List.{List, [], _∷_, _++_}
 use Prim.Native.Nat.{ℕ, _*_, _/_, _%_}
 use lib.IntN.{ℤ}
 use lib.ListN.{take, drop}
+use Rattle.standard.specs.Sizes.{perSlot}
 use Rattle.standard.specs.Told.{pick}
 use Rattle.standard.specs.Refusals.{numberOf}
 use Rattle.lines.specs.Text.{decimalOf, signedOf}
@@ -46,7 +47,7 @@ notReadEnd k = (114 ∷ 101 ∷ 102 ∷ 117 ∷ 115 ∷ 101 ∷ 100 ∷ 32 ∷ [
 unfoldable pub slotLine : Bool → ℕ → SlotOutcome → List ℤ → List ℕ
 slotLine two n Lacking vs = []
 slotLine two n (NotRead r) vs = slotStart (pick two (n / 2) n) (pick two (n % 2) 0) ++ notReadEnd (numberOf r)
-slotLine two n (Read k) vs = slotStart (pick two (n / 2) n) (pick two (n % 2) 0) ++ readEnd k (take k (drop (576 * n) vs))
+slotLine two n (Read k) vs = slotStart (pick two (n / 2) n) (pick two (n % 2) 0) ++ readEnd k (take k (drop (perSlot * n) vs))
 
 -- the four slots of a frame's answer
 unfoldable pub slotsText : Bool → SlotOutcome → SlotOutcome → SlotOutcome → SlotOutcome → List ℤ → List ℕ

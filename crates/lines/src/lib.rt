@@ -6,55 +6,71 @@ use crate::text::put_signed;
 use derived::number_of;
 use lent_bytes::put;
 use standard::Refusal;
+use standard::SLOT_NUMBERS;
 use standard::SlotAnswer;
 use standard::SlotOutcome;
 ghost use mathlib.Core.Path.{_≡_};
+ghost use mathlib.Core.List.{_++_};
 ghost use Prim.Native.Nat.{_/_, _%_};
 ghost use lib.ListN.{take, drop};
 ghost use Rattle.standard.specs.Refusals.{numberOf};
 ghost use Rattle.standard.specs.Told.{pick};
 ghost use Rattle.lent_bytes.specs.Put.{Put};
+ghost use Rattle.lines.specs.Text.{decimalOf};
 ghost use Rattle.lines.specs.Said.{frameLine, refusedLine, endLine, slotStart, numbersText, readEnd, notReadEnd, slotLine, slotsText};
+
+// A number between two words.
+fn put_one(out: &mut [u8], at: usize, before: &[u8], n: u64, after: &[u8]) -> usize
+    ensures { λ r. ⌜ Put (now (out .entry)) at (now (before .entry) ++ decimalOf n ++ now (after .entry)) r (now (out .exit)) ⌝ }
+{
+    let a = put(&mut *out, at, before);
+    let b = put_number(&mut *out, a, n);
+    put(out, b, after)
+}
+
+// Two numbers between three words.
+fn put_two(
+    out: &mut [u8],
+    at: usize,
+    before: &[u8],
+    n: u64,
+    between: &[u8],
+    m: u64,
+    after: &[u8],
+) -> usize
+    ensures { λ r. ⌜ Put (now (out .entry)) at (now (before .entry) ++ decimalOf n ++ now (between .entry) ++ decimalOf m ++ now (after .entry)) r (now (out .exit)) ⌝ }
+{
+    let a = put_one(&mut *out, at, before, n, between);
+    let b = put_number(&mut *out, a, m);
+    put(out, b, after)
+}
 
 // A frame that was accepted.
 pub fn put_frame(out: &mut [u8], at: usize, n: u64, length: u64) -> usize
     ensures { λ r. ⌜ Put (now (out .entry)) at (frameLine n length) r (now (out .exit)) ⌝ }
 {
-    let a = put(&mut *out, at, b"frame ");
-    let b = put_number(&mut *out, a, n);
-    let c = put(&mut *out, b, b" length ");
-    let d = put_number(&mut *out, c, length);
-    put(out, d, b"\n")
+    put_two(out, at, b"frame ", n, b" length ", length, b"\n")
 }
 
 // A frame that was refused.
 pub fn put_refused(out: &mut [u8], at: usize, n: u64, why: Refusal) -> usize
     ensures { λ r. ⌜ Put (now (out .entry)) at (refusedLine n (numberOf why)) r (now (out .exit)) ⌝ }
 {
-    let a = put(&mut *out, at, b"frame ");
-    let b = put_number(&mut *out, a, n);
-    let c = put(&mut *out, b, b" refused ");
-    let d = put_number(&mut *out, c, number_of(why) as u64);
-    put(out, d, b"\n")
+    let k = number_of(why) as u64;
+    put_two(out, at, b"frame ", n, b" refused ", k, b"\n")
 }
 
 // The end, with the number of frames that were accepted.
 pub fn put_end(out: &mut [u8], at: usize, n: u64) -> usize
     ensures { λ r. ⌜ Put (now (out .entry)) at (endLine n) r (now (out .exit)) ⌝ }
 {
-    let a = put(&mut *out, at, b"end ");
-    let b = put_number(&mut *out, a, n);
-    put(out, b, b"\n")
+    put_one(out, at, b"end ", n, b"\n")
 }
 
 fn put_start(out: &mut [u8], at: usize, granule: u64, channel: u64) -> usize
     ensures { λ r. ⌜ Put (now (out .entry)) at (slotStart granule channel) r (now (out .exit)) ⌝ }
 {
-    let a = put(&mut *out, at, b"slot ");
-    let b = put_number(&mut *out, a, granule);
-    let c = put(&mut *out, b, b" ");
-    let d = put_number(&mut *out, c, channel);
-    put(out, d, b" ")
+    put_two(out, at, b"slot ", granule, b" ", channel, b" ")
 }
 
 // Numbers, each after a blank.
@@ -88,19 +104,15 @@ pub fn part(numbers: &[i32], from: usize, n: usize) -> &[i32]
 fn put_read(out: &mut [u8], at: usize, count: u64, numbers: &[i32]) -> usize
     ensures { λ r. ⌜ Put (now (out .entry)) at (readEnd count (now (numbers .entry))) r (now (out .exit)) ⌝ }
 {
-    let a = put(&mut *out, at, b"count ");
-    let b = put_number(&mut *out, a, count);
-    let c = put(&mut *out, b, b":");
-    let d = put_numbers(&mut *out, c, numbers);
-    put(out, d, b"\n")
+    let a = put_one(&mut *out, at, b"count ", count, b":");
+    let b = put_numbers(&mut *out, a, numbers);
+    put(out, b, b"\n")
 }
 
 fn put_not_read(out: &mut [u8], at: usize, why: Refusal) -> usize
     ensures { λ r. ⌜ Put (now (out .entry)) at (notReadEnd (numberOf why)) r (now (out .exit)) ⌝ }
 {
-    let a = put(&mut *out, at, b"refused ");
-    let b = put_number(&mut *out, a, number_of(why) as u64);
-    put(out, b, b"\n")
+    put_one(out, at, b"refused ", number_of(why) as u64, b"\n")
 }
 
 fn granule(two: bool, n: u64) -> u64
@@ -130,7 +142,7 @@ fn put_slot(out: &mut [u8], at: usize, two: bool, n: u8, slot: SlotAnswer, numbe
         }
         SlotOutcome::Read { count } => {
             let a = put_start(&mut *out, at, g, c);
-            let from = 576 * (n as usize);
+            let from = SLOT_NUMBERS * (n as usize);
             put_read(out, a, count as u64, part(numbers, from, count as usize))
         }
     }

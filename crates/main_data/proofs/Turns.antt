@@ -19,7 +19,7 @@ use Rattle.standard.specs.Bits.{bits}
 use Rattle.standard.specs.Header.{granulesIn, channelsIn, isMpeg1, isTwo, granules, channelCount}
 use Rattle.standard.specs.Record.{absent}
 use Rattle.standard.specs.Numbers.{padded}
-use Rattle.standard.specs.Slots.{Outcome, alone, stopped, holds, isStopped, longOf, anyOf, sharesOf, settingOf, mateOf, slotIn, slotOf, thenSlots, slotsFrom, slotsOf, slotTold, lackingSlot, slotsTold, numbersAfter, numbersFrom}
+use Rattle.standard.specs.Slots.{Outcome, alone, stopped, holds, isStopped, longOf, anyOf, sharesOf, settingOf, mateOf, slotIn, slotOf, thenSlots, slotsFrom, slotsOf, slotTold, lackingSlot, slotsTold, numbersAfter, numbersFrom, records}
 use Rattle.standard.specs.CopyLaws.{paste-whole}
 use Rattle.standard.specs.RowsLaws.{getD-within}
 use Rattle.standard.specs.SideInfo.{isSide}
@@ -119,9 +119,6 @@ mated-slot h i s at answers done k r lost old l t m =
     λ q. slotIn s at (settingOf h i (sym l q) r) r (same-lost q) (same-old q)
 
 -- ---- the loop
-abbrev pub records : FrameHeader → SideInfo → List SlotRecord
-records h i = take (granules h * channelCount h) (i .slots)
-
 pub record Turning (h : FrameHeader) (i : SideInfo) (s : List ℕ) (d₀ d : List ℤ) (answers : List SlotAnswer) (at k : ℕ) : Type 0 where
   pub done : List Outcome
   pub count : length done ≡ k

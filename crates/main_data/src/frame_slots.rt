@@ -5,6 +5,7 @@ use crate::slot::read_slot;
 use derived::channel_count;
 use derived::granules;
 use standard::FrameHeader;
+use standard::SLOT_NUMBERS;
 use standard::SideInfo;
 use standard::SlotAnswer;
 use standard::SlotOutcome;
@@ -13,6 +14,7 @@ ghost use mathlib.Core.Bool.{true};
 ghost use mathlib.Core.List.{map};
 ghost use Prim.Native.Nat.{_≤_, _<_};
 ghost use lib.ListN.{length, getD};
+ghost use Rattle.standard.specs.Sizes.{perFrame};
 ghost use Rattle.standard.specs.SideInfo.{isSide};
 ghost use Rattle.standard.specs.Slots.{slotsOf, slotsTold, numbersFrom};
 ghost use Rattle.codes.specs.Flat.{trees};
@@ -62,7 +64,7 @@ pub(crate) fn slots_from(
     main: &[u8],
     numbers: &mut [i32],
 ) -> [SlotAnswer; 4]
-    requires { ⌜ (now links ≡ trees) × (2304 ≤ length (now numbers)) × (isSide h i ≡ true) ⌝ }
+    requires { ⌜ (now links ≡ trees) × (perFrame ≤ length (now numbers)) × (isSide h i ≡ true) ⌝ }
     ensures { λ r. ⌜ (r ≡ slotsTold (slotsOf h i (now (main .entry)))) × (now (numbers .exit) ≡ numbersFrom 0 (slotsOf h i (now (main .entry))) (now (numbers .entry))) ⌝ }
 {
     let channels = channel_count(h);
@@ -75,8 +77,8 @@ pub(crate) fn slots_from(
         let g = setting_of(h, i, k, r);
         let m = mate_of(answers, k, channels);
         let old = m.old;
-        let from = 576 * k;
-        let end = from + 576;
+        let from = SLOT_NUMBERS * k;
+        let end = from + SLOT_NUMBERS;
         let a = read_slot(links, g, r, m.lost, old, main, at, &mut numbers[from..end]);
         answers[k] = a;
         at += r.part2_3_length as u32;

@@ -4,6 +4,7 @@ use crate::frame_slots::slots_from;
 use codes::trees::trees;
 use header::is_header;
 use record_check::is_side_info;
+use standard::FRAME_NUMBERS;
 use standard::FrameHeader;
 use standard::Refusal;
 use standard::SideInfo;
@@ -22,7 +23,7 @@ mod slot;
 pub fn read_slots(h: FrameHeader, i: SideInfo, main: &[u8], numbers: &mut [i32]) -> SlotsAnswer
     ensures { λ r. ⌜ SlotsRead (now (numbers .entry)) (readSlots h i (now (main .entry)) (length (now (numbers .entry)))) r (now (numbers .exit)) ⌝ }
 {
-    if numbers.len() < 2304 {
+    if numbers.len() < FRAME_NUMBERS {
         return no_slots(Refusal::UnfitMemory);
     }
     if is_header(h) & is_side_info(h, i) {

@@ -12,6 +12,7 @@ ghost use mathlib.Core.Path.{_≡_};
 ghost use mathlib.Core.Bool.{_&&_};
 ghost use Prim.Native.Nat.{_+_, _*_, _≤_, _<_};
 ghost use lib.ListN.{length};
+ghost use Rattle.standard.specs.Sizes.{perSlot, mostBigValues};
 ghost use Rattle.standard.specs.Bits.{bits};
 ghost use Rattle.standard.specs.Slots.{anyOf, slotTold, slotIn, slotOf, numbersAfter};
 ghost use Rattle.codes.specs.Flat.{trees};
@@ -47,7 +48,7 @@ fn read_whole(
     at: u32,
     numbers: &mut [i32],
 ) -> SlotAnswer
-    requires { ⌜ (now links ≡ trees) × (length (now numbers) ≡ 576) × (r .«big_values» ≤ 288) × (r .«part2_3_length» < 4096) × (at ≤ 16384) ⌝ }
+    requires { ⌜ (now links ≡ trees) × (length (now numbers) ≡ perSlot) × (r .«big_values» ≤ mostBigValues) × (r .«part2_3_length» < 4096) × (at ≤ 16384) ⌝ }
     ensures { λ a. ⌜ SlotRead (slotOf g r lost old (bits (now (main .entry)) at (r .«part2_3_length»))) (now (numbers .entry)) a (now (numbers .exit)) ⌝ }
 {
     let length = r.part2_3_length as u32;
@@ -86,7 +87,7 @@ pub(crate) fn read_slot(
     at: u32,
     numbers: &mut [i32],
 ) -> SlotAnswer
-    requires { ⌜ (now links ≡ trees) × (length (now numbers) ≡ 576) × (r .«big_values» ≤ 288) × (r .«part2_3_length» < 4096) × (at ≤ 16384) ⌝ }
+    requires { ⌜ (now links ≡ trees) × (length (now numbers) ≡ perSlot) × (r .«big_values» ≤ mostBigValues) × (r .«part2_3_length» < 4096) × (at ≤ 16384) ⌝ }
     ensures { λ a. ⌜ SlotRead (slotIn (now (main .entry)) at g r lost old) (now (numbers .entry)) a (now (numbers .exit)) ⌝ }
 {
     let end = at as usize + r.part2_3_length as usize;

@@ -5,6 +5,7 @@ use crate::given::second_region;
 use crate::layout::layout_of;
 use derived::shape_of;
 use standard::BlockType;
+use standard::MOST_BIG_VALUES;
 use standard::SideInfo;
 use standard::SlotRecord;
 ghost use mathlib.Core.Path.{_≡_};
@@ -68,7 +69,10 @@ pub(crate) fn is_head(mpeg1: bool, r: SlotRecord) -> bool
 {
     let c = compress_width(mpeg1);
     let preflag = mpeg1 | (r.preflag == (500 <= r.scalefac_compress));
-    (r.part2_3_length < 4096) & (r.big_values <= 288) & (r.scalefac_compress < 1 << c) & preflag
+    (r.part2_3_length < 4096)
+        & (r.big_values <= MOST_BIG_VALUES)
+        & (r.scalefac_compress < 1 << c)
+        & preflag
 }
 
 // The rest of a record whose window is not switched.

@@ -7,9 +7,9 @@ use lib.IntN.{ℤ, pos}
 use lib.ListN.{length, getD, take, drop, set}
 use lib.Seq.{paste, length-paste, take-paste, drop-paste, drop-drop, take-all, length-take-le}
 use Rattle.standard.specs.Bands.{shortStart}
-use Rattle.standard.specs.Reorder.{orderOf, gathered, reorderedFrom}
+use Rattle.standard.specs.Reorder.{orderOf, gathered, reorderedFrom, bandNumbers}
 use Rattle.standard.specs.CopyLaws.{Copying, copying-turn}
-use Rattle.standard.specs.ReorderLaws.{bandNumbers, band-first, band-second, band-third, length-band-numbers, order-band, order-end, short-rises, short-tops, short-last}
+use Rattle.standard.specs.ReorderLaws.{band-first, band-second, band-third, length-band-numbers, order-band, order-end, short-rises, short-tops, short-last}
 use Rattle.standard.specs.declared.SampleRate.{SampleRate}
 
 pub band-turn : (old d₀ d left : List ℤ) (from w j at : ℕ) → Copying (bandNumbers from w old) d₀ d from (3 * j) → at ≡ from + 3 * j → j < w

@@ -4,6 +4,7 @@ use header::is_header;
 use record_check::is_record;
 use standard::FrameHeader;
 use standard::Refusal;
+use standard::SLOT_NUMBERS;
 use standard::SampleRate;
 use standard::Shape;
 use standard::SlotRecord;
@@ -13,9 +14,9 @@ ghost use mathlib.Core.Path.{_≡_};
 ghost use Prim.Native.Nat.{_+_, _*_, _≤_};
 ghost use lib.ListN.{length, take, set};
 ghost use lib.Seq.{paste};
+ghost use Rattle.standard.specs.Sizes.{perSlot};
 ghost use Rattle.standard.specs.Refusals.{Answers};
-ghost use Rattle.standard.specs.Reorder.{firstShort, reorderedFrom, reorderOf};
-ghost use Rattle.standard.specs.ReorderLaws.{bandNumbers};
+ghost use Rattle.standard.specs.Reorder.{firstShort, reorderedFrom, reorderOf, bandNumbers};
 
 // Three numbers from a place on.
 fn store_three(numbers: &mut [i32], at: usize, x: i32, y: i32, z: i32)
@@ -29,7 +30,7 @@ fn store_three(numbers: &mut [i32], at: usize, x: i32, y: i32, z: i32)
 
 // A band of width w from a place on, out of the numbers before the reorder.
 fn reorder_band(old: &[i32], numbers: &mut [i32], from: usize, w: usize)
-    requires { ⌜ (from + 3 * w ≤ 576) × (576 ≤ length (now numbers)) × (576 ≤ length (now old)) ⌝ }
+    requires { ⌜ (from + 3 * w ≤ perSlot) × (perSlot ≤ length (now numbers)) × (perSlot ≤ length (now old)) ⌝ }
     ensures { λ _. ⌜ now (numbers .exit) ≡ paste (now (numbers .entry)) from (bandNumbers from w (now (old .entry))) (3 * w) ⌝ }
 {
     let mut j = 0usize;
@@ -48,13 +49,13 @@ fn reorder_band(old: &[i32], numbers: &mut [i32], from: usize, w: usize)
 }
 
 // The numbers before the reorder.
-fn first_576(numbers: &[i32]) -> [i32; 576]
-    requires { ⌜ 576 ≤ length (now numbers) ⌝ }
-    ensures { λ r. ⌜ r ≡ take 576 (now (numbers .entry)) ⌝ }
+fn first_576(numbers: &[i32]) -> [i32; SLOT_NUMBERS]
+    requires { ⌜ perSlot ≤ length (now numbers) ⌝ }
+    ensures { λ r. ⌜ r ≡ take perSlot (now (numbers .entry)) ⌝ }
 {
-    let mut old = [0i32; 576];
+    let mut old = [0i32; SLOT_NUMBERS];
     let mut i = 0usize;
-    while i < 576 {
+    while i < SLOT_NUMBERS {
         old[i] = numbers[i];
         i += 1;
     }
@@ -63,7 +64,7 @@ fn first_576(numbers: &[i32]) -> [i32; 576]
 
 // The first 576 numbers of a slot, band by band from its k-th short band on.
 fn reorder_from(rate: SampleRate, first: usize, numbers: &mut [i32])
-    requires { ⌜ (first ≤ 13) × (576 ≤ length (now numbers)) ⌝ }
+    requires { ⌜ (first ≤ 13) × (perSlot ≤ length (now numbers)) ⌝ }
     ensures { λ _. ⌜ now (numbers .exit) ≡ reorderedFrom rate first (now (numbers .entry)) ⌝ }
 {
     let old = first_576(numbers);
@@ -91,7 +92,7 @@ fn first_short(shape: Shape) -> usize
 pub fn reorder(h: FrameHeader, r: SlotRecord, numbers: &mut [i32]) -> Verdict
     ensures { λ v. ⌜ Answers (now (numbers .entry)) v (now (numbers .exit)) (reorderOf h r (now (numbers .entry))) ⌝ }
 {
-    if numbers.len() < 576 {
+    if numbers.len() < SLOT_NUMBERS {
         return Verdict::Refused(Refusal::UnfitMemory);
     }
     if is_header(h) {

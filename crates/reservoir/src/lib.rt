@@ -1,15 +1,13 @@
 // The bit reservoir: what a frame keeps of it and adds to it, in lent bytes.
 use lent_bytes::put;
 use lent_bytes::slide;
+use standard::RESERVOIR_BYTES;
 use standard::Refusal;
 use standard::Reservoir;
 use standard::ReservoirAnswer;
 use standard::Verdict;
 ghost use mathlib.Core.Path.{_≡_};
 ghost use Rattle.standard.specs.Reservoir.{turnIn, Turned, «emptied»};
-
-// Bytes a reader lends for the reservoir, at least.
-const LENT: usize = 4096;
 
 // For a gap on the card: no byte before it is meant any more.
 pub fn emptied() -> Reservoir
@@ -34,16 +32,16 @@ pub fn turn(bytes: &mut [u8], reservoir: Reservoir, begin: u16, main: &[u8]) -> 
 {
     let stated = reservoir.length;
     let back = begin as usize;
-    if bytes.len() < LENT {
+    if bytes.len() < RESERVOIR_BYTES {
         return refused(Refusal::UnfitMemory, reservoir);
     }
-    if LENT < stated {
+    if RESERVOIR_BYTES < stated {
         return refused(Refusal::UnfitMemory, reservoir);
     }
-    if LENT < main.len() {
+    if RESERVOIR_BYTES < main.len() {
         return refused(Refusal::UnfitMemory, reservoir);
     }
-    if LENT < back + main.len() {
+    if RESERVOIR_BYTES < back + main.len() {
         return refused(Refusal::UnfitMemory, reservoir);
     }
     if stated < back {

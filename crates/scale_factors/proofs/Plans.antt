@@ -13,8 +13,8 @@ use Rattle.lent_bytes.specs.PutLaws.{put-whole}
 use Rattle.standard.specs.ToldLaws.{never}
 use Rattle.standard.specs.Record.{shapeOf}
 use Rattle.standard.specs.Bits.{bits}
-use Rattle.standard.specs.Factors.{planBy, planOf, group, groupsFrom, sourcesOf, planBits, longCount, shortCount, shortFrom, longFactors, shortFactors, bandsOf}
-use Rattle.standard.specs.FactorsLaws.{factorCount, few-factors, plan-bits-append, plan-length, lengths-small, shape-unshares, plan-factors-length, short-length}
+use Rattle.standard.specs.Factors.{planBy, planOf, group, groupsFrom, sourcesOf, planBits, longCount, shortCount, shortFrom, longFactors, shortFactors, bandsOf, factorCount}
+use Rattle.standard.specs.FactorsLaws.{few-factors, plan-bits-append, plan-length, lengths-small, shape-unshares, plan-factors-length, short-length, room}
 use Rattle.standard.specs.declared.Setting.{Setting}
 use Rattle.standard.specs.declared.SlotRecord.{SlotRecord}
 use Rattle.standard.specs.declared.Plan.{Plan}
@@ -77,11 +77,6 @@ first-put fs m n within h p =
     part-put fs 0 n within m 0 p (omega arith) ∙ (λ j. take (q j) fs ++ zeros (m - (zero-add (n - 0) ∙ q) j))
 
 -- ---- the factors of a slot at their places
--- no kind of slot has more than 21 long ones, and the short ones end before the last band
-pub places : (mpeg1 : Bool) (k : Shape) → (longCount mpeg1 k ≤ 21) × (shortFrom k + shortCount k ≤ 36)
-places mpeg1 AllLong = (omega arith, omega arith)
-places mpeg1 AllShort = (omega arith, omega arith)
-
 -- what follows the factors is not taken
 module _ (mpeg1 : Bool) (k : Shape) (l more : List ℕ) (e : length l ≡ factorCount mpeg1 k) where
   long-taken : take (longCount mpeg1 k) (l ++ more) ++ zeros (22 - longCount mpeg1 k) ≡ longFactors mpeg1 k l

@@ -12,8 +12,8 @@ use lib.Seq.{sets, length-sets, getD-drop, drop-drop}
 use Rattle.standard.specs.Told.{pick}
 use Rattle.standard.specs.Bits.{bits, value, fieldAt}
 use Rattle.standard.specs.BitsLaws.{take-bits, drop-bits}
-use Rattle.standard.specs.Factors.{group, groupsFrom, sourcesOf, Source, shared, coded, planBits, factorsFrom}
-use Rattle.standard.specs.FactorsLaws.{widthOf, factorBy, source-small, group-length, group-small, groups-small, plan-bits-cons, plan-bits-append, factors-cons, factors-length, factors-append, factors-bits}
+use Rattle.standard.specs.Factors.{group, groupsFrom, sourcesOf, Source, shared, coded, planBits, factorsFrom, widthOf, factorBy}
+use Rattle.standard.specs.FactorsLaws.{source-small, group-length, group-small, groups-small, plan-bits-cons, plan-bits-append, factors-cons, factors-length, factors-append, factors-bits}
 use Rattle.scale_factors.specs.Groups.{sourceIn, filled, Group, Fit}
 use Rattle.standard.specs.declared.Plan.{Plan}
 

@@ -18,8 +18,7 @@ ghost use Prim.Native.Nat.{_+_, _-_, _<_, _≤_};
 ghost use lib.ListN.{length, getD, take, drop, replicate};
 ghost use Rattle.standard.specs.Bits.{bits};
 ghost use Rattle.standard.specs.Record.{shapeOf};
-ghost use Rattle.standard.specs.Factors.{planOf, sourcesOf, group, planBits, longCount, shortCount, shortFrom, longFactors, shortFactors, bandsOf};
-ghost use Rattle.standard.specs.FactorsLaws.{widthOf, factorBy};
+ghost use Rattle.standard.specs.Factors.{planOf, sourcesOf, group, planBits, longCount, shortCount, shortFrom, longFactors, shortFactors, bandsOf, widthOf, factorBy};
 ghost use Rattle.scale_factors.specs.Flat.{flatOf};
 ghost use Rattle.scale_factors.specs.Groups.{factorsAt, sourceOf, filled, Group, Fit};
 

@@ -7,6 +7,7 @@ use record_check::given::compress_width;
 use record_check::given::first_region;
 use record_check::given::second_region;
 use standard::BlockType;
+use standard::MOST_BIG_VALUES;
 use standard::Refusal;
 use standard::SlotRecord;
 use standard::Verdict;
@@ -142,7 +143,7 @@ pub(crate) fn verdict_of(pairs: u16, w: u64) -> Verdict
     ensures { λ r. ⌜ ((mpeg1 : Bool) (s : List ℕ) (at : ℕ) (k : Common) → PartsAt mpeg1 s at k w → pairs ≡ k .«big_values»
         → r ≡ verdictOf (recordOf mpeg1 (recordBits mpeg1 s at))) ⌝ }
 {
-    if 288 < pairs {
+    if MOST_BIG_VALUES < pairs {
         return Verdict::Refused(Refusal::TooManyPairs);
     }
     let switched = (w >> 22) % 2;

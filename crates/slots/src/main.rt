@@ -18,6 +18,7 @@ use lines::put_frame;
 use lines::put_refused;
 use lines::put_slots;
 use reservoir::emptied;
+use standard::FRAME_NUMBERS;
 use standard::FrameAnswer;
 use standard::Refusal;
 use standard::Reservoir;
@@ -267,7 +268,7 @@ fn walk(piece: &mut [u8], bytes: &mut [u8], numbers: &mut [i32], out: &mut [u8])
 fn main() {
     let mut piece = io::large_buffer();
     let mut bytes = io::buffer();
-    let mut numbers = [0i32; 2304];
+    let mut numbers = [0i32; FRAME_NUMBERS];
     let mut out = io::large_buffer();
     walk(&mut piece, &mut bytes, &mut numbers, &mut out);
 }

@@ -90,11 +90,6 @@ pub between-length : (s : List ℕ) (at e : ℕ) → length (between s at e) ≡
 unfolding between
 between-length s at e = length-bits s at (e - at)
 
--- a slot of n bits, as its reader has it
-pub between-bits : (s : List ℕ) (at n : ℕ) → between s at (at + n) ≡ bits s at n
-unfolding between
-between-bits s at n = let p : (at + n) - at ≡ n = omega arith in ap (bits s at) p
-
 -- ---- the number that bits spell
 pub one-le : (x : Bool) → one x ≤ 1
 one-le true = omega arith

@@ -65,11 +65,6 @@ paste-next {A = A} src old next at a m h l e =
         ∙ drop-drop m (at + a) old
         ∙ ap (λ (n : ℕ). drop n old) s
 
--- from the front on
-pub paste-on : {A : Type 0} (src old next : List A) (a m : ℕ) → a + m ≤ length old → a ≤ length src → take m next ≡ take m (drop a src)
-    → paste (paste old 0 src a) a next m ≡ paste old 0 src (a + m)
-paste-on src old next a m h l e = ap (λ (n : ℕ). paste (paste old 0 src a) n next m) (sym (zero-add a)) ∙ paste-next src old next 0 a m (omega arith) l e
-
 -- all of a list of n replaced
 pub paste-whole : {A : Type 0} (src old : List A) (n : ℕ) → length old ≡ n → paste old 0 src n ≡ take n src
 paste-whole {A = A} src old n e =

@@ -19,12 +19,23 @@ pub data Source : Type 0 where
   shared : Source
   coded : ℕ → Source
 
+-- the bits that it takes
+abbrev pub widthOf : Source → ℕ
+widthOf shared = 0
+widthOf (coded w) = w
+
+-- its factor: granule 0's, or the number that the next bits spell
+abbrev pub factorBy : Source → ℕ → List Bool → ℕ
+factorBy shared old b = old
+factorBy (coded w) old b = value (take w b)
+
 -- ---- the plan of a slot: four groups in turn
 abbrev planned : List ℕ → List ℕ → List Bool → Plan
 planned ns ws xs = record { counts = ns; lengths = ws; shares = xs }
 
--- MPEG-1: scfsi_band 0 to 3 are the long factors from 0, 6, 11 and 16 on; short bands 0 (or 3) to 5 have the first length, 6 to 11 the second.
--- `intensity` says whether this is the second channel under intensity stereo, of MPEG-2, where scalefac_compress has 9 bits and nothing is shared
+-- MPEG-1: scfsi_band 0 to 3 are the long factors from 0, 6, 11 and 16 on; short bands 0 to 5 have the first length, 6 to 11 the second.
+-- `intensity` says whether this is the second channel under intensity stereo, of MPEG-2, where nothing is shared. There scalefac_compress has 9
+-- bits: only those are looked at, so that a made-up record, whose number may have 16, has lengths of at most 5 bits too
 unfoldable pub planBy : Bool → Bool → List Bool → Shape → ℕ → Plan
 planBy true intensity shares AllLong c = planned (6 ∷ 5 ∷ 5 ∷ 5 ∷ []) (slen1 c ∷ slen1 c ∷ slen2 c ∷ slen2 c ∷ []) shares
 planBy true intensity shares AllShort c = planned (18 ∷ 18 ∷ 0 ∷ 0 ∷ []) (slen1 c ∷ slen2 c ∷ 0 ∷ 0 ∷ []) (replicate 4 false)
@@ -76,6 +87,10 @@ shortCount AllShort = 36
 abbrev pub shortFrom : Shape → ℕ
 shortFrom AllLong = 0
 shortFrom AllShort = 0
+
+-- so many in all
+abbrev pub factorCount : Bool → Shape → ℕ
+factorCount mpeg1 k = longCount mpeg1 k + shortCount k
 
 unfoldable pub longFactors : Bool → Shape → List ℕ → List ℕ
 longFactors mpeg1 k fs = take (longCount mpeg1 k) fs ++ replicate (22 - longCount mpeg1 k) 0

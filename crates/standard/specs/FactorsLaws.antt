@@ -10,16 +10,16 @@ use native.Mathlib.Omega.{arith}
 use borrow.Author.Tests.{lt-ltb, le-ltb, leb-true, eqb-true}
 use lib.Dec.{ltb, leb, eqb}
 use lib.ListN.{length, getD, take, drop, replicate, length-append, length-replicate, length-take, length-drop, drop-of-length-le}
-use lib.Seq.{take-take, take-nil, drop-drop, getD-take, getD-drop}
+use lib.Seq.{take-take, take-nil, drop-drop}
 use Rattle.standard.specs.Told.{pick}
 use Rattle.standard.specs.ToldLaws.{picked, passed, never, both-of}
-use Rattle.standard.specs.Bits.{bits, one, value}
-use Rattle.standard.specs.BitsLaws.{take-bits, one-le}
+use Rattle.standard.specs.Bits.{bits, value}
+use Rattle.standard.specs.BitsLaws.{take-bits}
 use Rattle.standard.specs.RowsLaws.{every, every-at, every-in, rows-long}
-use Rattle.standard.specs.Lengths.{slenRows, slen1, slen2, lowRange, ordinaryLengths, intensityLengths, lowLengths, lowRows, rowsFrom, lowCounts}
+use Rattle.standard.specs.Lengths.{slenRows, slen1, slen2, lowRange, ordinaryLengths, intensityLengths, lowLengths, longCounts, shortCounts, intensityLongCounts, intensityShortCounts, countRows, lowCounts}
 use Rattle.standard.specs.LengthsLaws.{range-lt}
 use Rattle.standard.specs.Record.{shapeOf}
-use Rattle.standard.specs.Factors.{Source, shared, coded, planBy, planOf, group, groupsFrom, sourcesOf, mayShare, planBits, factorsFrom, longCount, shortCount, shortFrom, longFactors, shortFactors, bandsOf}
+use Rattle.standard.specs.Factors.{Source, shared, coded, planBy, planOf, group, groupsFrom, sourcesOf, mayShare, planBits, factorsFrom, longCount, shortCount, shortFrom, factorCount, widthOf, factorBy, shortFactors, bandsOf}
 use Rattle.standard.specs.declared.SlotRecord.{SlotRecord}
 use Rattle.standard.specs.declared.Setting.{Setting}
 use Rattle.standard.specs.declared.Plan.{Plan}
@@ -27,16 +27,6 @@ use Rattle.standard.specs.declared.Shape.{Shape}
 use Rattle.standard.specs.declared.Shape.the-variants.{AllLong, AllShort}
 
 -- ---- one source
--- the bits that it takes
-abbrev pub widthOf : Source → ℕ
-widthOf shared = 0
-widthOf (coded w) = w
-
--- its factor: granule 0's, or the number that the next bits spell
-abbrev pub factorBy : Source → ℕ → List Bool → ℕ
-factorBy shared old b = old
-factorBy (coded w) old b = value (take w b)
-
 pub plan-bits-cons : (x : Source) (ps : List Source) → planBits (x ∷ ps) ≡ widthOf x + planBits ps
 unfolding planBits
 plan-bits-cons shared ps = sym (zero-add (planBits ps))
@@ -102,22 +92,17 @@ factors-bits ps old s at n h = factors-take ps old (bits s at n) ∙ ap (factors
 total : List ℕ → ℕ
 total ns = getD ns 0 0 + getD ns 1 0 + getD ns 2 0 + getD ns 3 0
 
-abbrev pub factorCount : Bool → Shape → ℕ
-factorCount mpeg1 k = longCount mpeg1 k + shortCount k
-
 -- the three rows of one kind of slot have one total
-three-rows : (n from : ℕ) → every (λ (row : List ℕ). eqb (total row) n) (take 3 (drop from lowRows)) ≡ true
-    → length (take 3 (drop from lowRows)) ≡ 3 → (k : ℕ) → k < 3 → total (getD lowRows (from + k) []) ≡ n
-three-rows n from t e k h =
-    ap total (sym (getD-take 3 (drop from lowRows) k [] h ∙ getD-drop from lowRows k []))
-    ∙ eqb-true _ _ (every-in (λ (row : List ℕ). eqb (total row) n) [] (take 3 (drop from lowRows)) t k (omega arith))
+three-rows : (n : ℕ) (rows : List (List ℕ)) → every (λ (row : List ℕ). eqb (total row) n) rows ≡ true → length rows ≡ 3
+    → (k : ℕ) → k < 3 → total (getD rows k []) ≡ n
+three-rows n rows t e k h = eqb-true _ _ (every-in (λ (row : List ℕ). eqb (total row) n) [] rows t k (omega arith))
 
-low-total : (intensity : Bool) (k : Shape) (n : ℕ) → n < 3 → total (getD lowRows (6 * one intensity + rowsFrom k + n) []) ≡ factorCount false k
-unfolding every lowRows total
-low-total false AllLong = three-rows 21 0 refl refl
-low-total false AllShort = three-rows 36 3 refl refl
-low-total true AllLong = three-rows 21 6 refl refl
-low-total true AllShort = three-rows 36 9 refl refl
+low-total : (intensity : Bool) (k : Shape) (n : ℕ) → n < 3 → total (getD (countRows intensity k) n []) ≡ factorCount false k
+unfolding every longCounts shortCounts intensityLongCounts intensityShortCounts total
+low-total false AllLong = three-rows 21 longCounts refl refl
+low-total false AllShort = three-rows 36 shortCounts refl refl
+low-total true AllLong = three-rows 21 intensityLongCounts refl refl
+low-total true AllShort = three-rows 36 intensityShortCounts refl refl
 
 counts-total : (mpeg1 intensity : Bool) (shares : List Bool) (k : Shape) (c : ℕ) → total (planBy mpeg1 intensity shares k c .counts) ≡ factorCount mpeg1 k
 unfolding total planBy lowCounts
@@ -258,33 +243,18 @@ pub unshared-plan : (g : Setting) (r : SlotRecord) → ((n : ℕ) → getD (g .s
 unfolding planOf
 unshared-plan g r h = groups-unshared (planOf g r) (none-unshares (g .mpeg1) (g .intensity) (g .shares) (shapeOf r) (r .«scalefac_compress») h) 0 4
 
--- ---- long factors are 22, short ones 39, in bands of three
+-- ---- short factors are 39, in bands of three
 pub plan-factors-length : (g : Setting) (r : SlotRecord) (old : List ℕ) (b : List Bool) → length (factorsFrom (sourcesOf (planOf g r)) old b) ≡ factorCount (g .mpeg1) (shapeOf r)
 plan-factors-length g r old b = factors-length (sourcesOf (planOf g r)) old b ∙ plan-length g r
 
-room : (mpeg1 : Bool) (k : Shape) → (longCount mpeg1 k ≤ 21) × (shortFrom k + shortCount k ≤ 36)
+-- no slot has more than 21 long ones, and the short ones end before the last band
+pub room : (mpeg1 : Bool) (k : Shape) → (longCount mpeg1 k ≤ 21) × (shortFrom k + shortCount k ≤ 36)
 room mpeg1 AllLong = (omega arith, omega arith)
 room mpeg1 AllShort = (omega arith, omega arith)
-
-pub long-length : (mpeg1 : Bool) (k : Shape) (fs : List ℕ) → length fs ≡ factorCount mpeg1 k → length (longFactors mpeg1 k fs) ≡ 22
-unfolding longFactors
-long-length mpeg1 k fs e = simp (length-append, length-replicate, length-take) (omega (arith, room mpeg1 k))
 
 pub short-length : (mpeg1 : Bool) (k : Shape) (fs : List ℕ) → length fs ≡ factorCount mpeg1 k → length (shortFactors mpeg1 k fs) ≡ 39
 unfolding shortFactors
 short-length mpeg1 k fs e = simp (length-append, length-replicate, length-drop) (omega (arith, room mpeg1 k))
-
--- short factors never go by granule 0
-pub short-any-old : (g : Setting) (r : SlotRecord) (old old′ : List ℕ) (b : List Bool)
-    → shortFactors (g .mpeg1) (shapeOf r) (factorsFrom (sourcesOf (planOf g r)) old b) ≡ shortFactors (g .mpeg1) (shapeOf r) (factorsFrom (sourcesOf (planOf g r)) old′ b)
-unfolding shortFactors planOf
-short-any-old g r old old′ b = go (shapeOf r) refl
-  where
-    go : (k : Shape) → shapeOf r ≡ k → shortFactors (g .mpeg1) (shapeOf r) (factorsFrom (sourcesOf (planOf g r)) old b) ≡ shortFactors (g .mpeg1) (shapeOf r) (factorsFrom (sourcesOf (planOf g r)) old′ b)
-    go AllLong e =
-        let none : (o : List ℕ) → drop (longCount (g .mpeg1) (shapeOf r)) (factorsFrom (sourcesOf (planOf g r)) o b) ≡ [] = λ o. drop-of-length-le (factorsFrom (sourcesOf (planOf g r)) o b) {i = longCount (g .mpeg1) (shapeOf r)} (omega (arith, plan-factors-length g r o b, ap shortCount e)) in
-        ap (λ (l : List ℕ). replicate (shortFrom (shapeOf r)) 0 ++ l ++ replicate (39 - (shortFrom (shapeOf r) + shortCount (shapeOf r))) 0) (none old ∙ sym (none old′))
-    go AllShort e = ap (shortFactors (g .mpeg1) (shapeOf r)) (groups-unshared (planOf g r) (shape-unshares (g .mpeg1) (g .intensity) (g .shares) (shapeOf r) (r .«scalefac_compress») (ap mayShare e)) 0 4 old old′ b)
 
 pub bands-length : (n : ℕ) (fs : List ℕ) → length (bandsOf n fs) ≡ n
 unfolding bandsOf

@@ -7,6 +7,7 @@ use Prim.Native.Nat.{ℕ, _+_}
 use lib.Dec.{ltb}
 use lib.IntN.{ℤ}
 use lib.ListN.{length, take, drop}
+use Rattle.standard.specs.Sizes.{perFrame}
 use Rattle.standard.specs.Told.{Told, refused, told, pick}
 use Rattle.standard.specs.Header.{headerOf, headerSize, sideSize, mainSize, frameLength, noHeader}
 use Rattle.standard.specs.SideInfo.{sideOf, noSide}
@@ -43,6 +44,10 @@ unfoldable pub fullStep : FrameHeader → SideInfo → List ℕ → Step
 fullStep h i bytes =
     record { verdict = Accepted; header = h; info = i; length = frameLength h; slots = slotsOf h i bytes; kept = keeping bytes }
 
+-- the main data of a frame's bytes
+abbrev pub mainOf : FrameHeader → List ℕ → List ℕ
+mainOf h s = take (mainSize h) (drop (headerSize h + sideSize h) s)
+
 -- by the frame's turn with the reservoir
 unfoldable pub withTurn : FrameHeader → SideInfo → Turn → Step
 withTurn h i (short bytes) = shortStep h i bytes
@@ -52,7 +57,7 @@ unfoldable pub withSide : FrameHeader → List ℕ → List ℕ → Told SideInf
 withSide h s old (refused r) = noStep r
 withSide h s old (told i) =
     pick (ltb (length s) (frameLength h)) (noStep AbsentBytes)
-    (withTurn h i (turnOf (i .«main_data_begin») old (take (mainSize h) (drop (headerSize h + sideSize h) s))))
+    (withTurn h i (turnOf (i .«main_data_begin») old (mainOf h s)))
 
 unfoldable pub withHeader : List ℕ → List ℕ → Told FrameHeader → Step
 withHeader s old (refused r) = noStep r
@@ -65,7 +70,7 @@ frameOf s old = withHeader s old (headerOf s)
 -- the call: `lent` bytes with a stated length of them, and d numbers
 unfoldable pub frameCall : List ℕ → List ℕ → ℕ → ℕ → Step
 frameCall s lent stated d =
-    pick (unfit lent stated || ltb d 2304) (noStep UnfitMemory)
+    pick (unfit lent stated || ltb d perFrame) (noStep UnfitMemory)
     (frameOf s (take stated lent))
 
 -- what is answered of a frame, and the lent bytes and numbers after it

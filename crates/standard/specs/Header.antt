@@ -70,7 +70,54 @@ rates Mpeg1 = Hz44100 ∷ Hz48000 ∷ Hz32000 ∷ []
 rates Mpeg2 = Hz22050 ∷ Hz24000 ∷ Hz16000 ∷ []
 rates Mpeg25 = Hz11025 ∷ Hz12000 ∷ Hz8000 ∷ []
 
--- ID, with the bit before it that tells MPEG-2.5
+-- ---- the bits of the four bytes, by name (11172-3, 2.4.1.3)
+-- the first byte is sync, and so are the top three bits of the second; MPEG-2.5 takes the twelfth bit of sync for its version
+abbrev syncByte : ℕ
+syncByte = 0xFF
+
+abbrev syncLeast : ℕ
+syncLeast = 0xE0
+
+-- the second byte: ID, with the bit before it; layer; protection_bit
+abbrev ID : ℕ → ℕ
+ID b1 = b1 / 8 % 4
+
+abbrev layer : ℕ → ℕ
+layer b1 = b1 / 2 % 4
+
+abbrev protectionBit : ℕ → ℕ
+protectionBit b1 = b1 % 2
+
+-- the third: bitrate_index, sampling_frequency, padding_bit (and private_bit, which is skipped)
+abbrev bitrateIndex : ℕ → ℕ
+bitrateIndex b2 = b2 / 16
+
+abbrev samplingFrequency : ℕ → ℕ
+samplingFrequency b2 = b2 / 4 % 4
+
+abbrev paddingBit : ℕ → ℕ
+paddingBit b2 = b2 / 2 % 2
+
+-- the fourth: mode, mode_extension (mid/side, then intensity), copyright, original, emphasis
+abbrev mode : ℕ → ℕ
+mode b3 = b3 / 64
+
+abbrev midSideBit : ℕ → ℕ
+midSideBit b3 = b3 / 32 % 2
+
+abbrev intensityBit : ℕ → ℕ
+intensityBit b3 = b3 / 16 % 2
+
+abbrev copyrightBit : ℕ → ℕ
+copyrightBit b3 = b3 / 8 % 2
+
+abbrev originalBit : ℕ → ℕ
+originalBit b3 = b3 / 4 % 2
+
+abbrev emphasisBits : ℕ → ℕ
+emphasisBits b3 = b3 % 4
+
+-- ---- what they say
 unfoldable pub versionOf : ℕ → MpegVersion
 versionOf v = pick (eqb v 3) Mpeg1 (pick (eqb v 2) Mpeg2 Mpeg25)
 
@@ -80,47 +127,47 @@ emphasisOf v = pick (eqb v 0) NoEmphasis (pick (eqb v 1) FiftyFifteen CcitJ17)
 -- mode and, for joint stereo, mode_extension: of the fourth byte
 unfoldable pub channelsOf : ℕ → Channels
 channelsOf b =
-    pick (eqb (b / 64) 0) Stereo
-    (pick (eqb (b / 64) 1) (JointStereo (eqb (b / 16 % 2) 1) (eqb (b / 32 % 2) 1))
-    (pick (eqb (b / 64) 2) DualMono Mono))
+    pick (eqb (mode b) 0) Stereo
+    (pick (eqb (mode b) 1) (JointStereo (eqb (intensityBit b) 1) (eqb (midSideBit b) 1))
+    (pick (eqb (mode b) 2) DualMono Mono))
 
 -- the header that a second, third and fourth byte spell, where they pass every test
 unfoldable pub fields : ℕ → ℕ → ℕ → FrameHeader
 fields b1 b2 b3 =
     record {
-      version = versionOf (b1 / 8 % 4);
-      crc = eqb (b1 % 2) 0;
-      bitrate = getD (bitrates (versionOf (b1 / 8 % 4))) (b2 / 16 - 1) Kbps8;
-      rate = getD (rates (versionOf (b1 / 8 % 4))) (b2 / 4 % 4) Hz8000;
-      padding = eqb (b2 / 2 % 2) 1;
+      version = versionOf (ID b1);
+      crc = eqb (protectionBit b1) 0;
+      bitrate = getD (bitrates (versionOf (ID b1))) (bitrateIndex b2 - 1) Kbps8;
+      rate = getD (rates (versionOf (ID b1))) (samplingFrequency b2) Hz8000;
+      padding = eqb (paddingBit b2) 1;
       channels = channelsOf b3;
-      copyright = eqb (b3 / 8 % 2) 1;
-      original = eqb (b3 / 4 % 2) 1;
-      emphasis = emphasisOf (b3 % 4);
+      copyright = eqb (copyrightBit b3) 1;
+      original = eqb (originalBit b3) 1;
+      emphasis = emphasisOf (emphasisBits b3);
     }
 
 -- ---- reading a header, byte by byte: the first fault decides
 -- the third and fourth byte, needed together
 unfoldable pub lastBytes : List ℕ → Told FrameHeader
 lastBytes s =
-    pick (eqb (getD s 2 0 / 16) 0) (refused FreeBitrate)
-    (pick (eqb (getD s 2 0 / 16) 15 || eqb (getD s 2 0 / 4 % 4) 3) (refused ForbiddenRate)
-    (pick (eqb (getD s 3 0 % 4) 2) (refused ReservedEmphasis)
-    (pick (eqb (getD s 1 0 % 2) 0 && leb (length s) 5) (refused AbsentBytes)
+    pick (eqb (bitrateIndex (getD s 2 0)) 0) (refused FreeBitrate)
+    (pick (eqb (bitrateIndex (getD s 2 0)) 15 || eqb (samplingFrequency (getD s 2 0)) 3) (refused ForbiddenRate)
+    (pick (eqb (emphasisBits (getD s 3 0)) 2) (refused ReservedEmphasis)
+    (pick (eqb (protectionBit (getD s 1 0)) 0 && leb (length s) 5) (refused AbsentBytes)
     (told (fields (getD s 1 0) (getD s 2 0) (getD s 3 0))))))
 
 unfoldable pub secondByte : List ℕ → Told FrameHeader
 secondByte s =
-    pick (ltb (getD s 1 0) 224) (refused NoSync)
-    (pick (eqb (getD s 1 0 / 8 % 4) 1) (refused ReservedVersion)
-    (pick (eqb (getD s 1 0 / 2 % 4) 0) (refused ReservedLayer)
-    (pick (not (eqb (getD s 1 0 / 2 % 4) 1)) (refused OtherLayer)
+    pick (ltb (getD s 1 0) syncLeast) (refused NoSync)
+    (pick (eqb (ID (getD s 1 0)) 1) (refused ReservedVersion)
+    (pick (eqb (layer (getD s 1 0)) 0) (refused ReservedLayer)
+    (pick (not (eqb (layer (getD s 1 0)) 1)) (refused OtherLayer)
     (pick (leb (length s) 3) (refused AbsentBytes) (lastBytes s)))))
 
 unfoldable pub headerOf : List ℕ → Told FrameHeader
 headerOf s =
     pick (leb (length s) 0) (refused AbsentBytes)
-    (pick (not (eqb (getD s 0 0) 255)) (refused NoSync)
+    (pick (not (eqb (getD s 0 0) syncByte)) (refused NoSync)
     (pick (leb (length s) 1) (refused AbsentBytes) (secondByte s)))
 
 -- ---- which headers bytes read to: those whose bitrate and rate are their version's
@@ -151,7 +198,7 @@ isIntensity DualMono = false
 isIntensity Stereo = false
 isIntensity (JointStereo i m) = i
 
--- a frame has 1,152 samples, or 576: so many bytes for a bit in a sample's time
+-- a frame lasts 1,152 samples, or 576: at b bits a second and r samples a second it has 1,152 b / r bits, which are 144 b / r bytes
 abbrev pub slotBytes : MpegVersion → ℕ
 slotBytes Mpeg1 = 144
 slotBytes Mpeg2 = 72

@@ -153,14 +153,6 @@ own-size h e =
     between-is (least v) 1440 v (h .bitrate) (h .rate) (every-member (between (least v) 1440 v (h .bitrate)) sameRate same-rate (h .rate) (rates v) p (k .1))
 
 -- ---- of every header, made-up ones too
-pub header-size-is : (h : FrameHeader) → headerSize h ≡ pick (h .crc) 6 4
-unfolding headerSize pick
-header-size-is h = omega (arith, by-crc (h .crc))
-  where
-    by-crc : (b : Bool) → pick b 6 4 ≡ 4 + 2 * one b
-    by-crc true = refl
-    by-crc false = refl
-
 pub header-size : (h : FrameHeader) → (4 ≤ headerSize h) × (headerSize h ≤ 6)
 unfolding headerSize
 header-size h = let k = one-le (h .crc) in (omega arith, omega arith)
@@ -181,10 +173,6 @@ side-bytes true true = inr (inr refl)
 side-bytes true false = inr (inl refl)
 side-bytes false true = inr (inl refl)
 side-bytes false false = inl refl
-
-pub side-size-is : (h : FrameHeader) → (sideSize h ≡ 9) ⊎ (sideSize h ≡ 17) ⊎ (sideSize h ≡ 32)
-unfolding sideSize
-side-size-is h = side-bytes (isMpeg1 (h .version)) (isTwo (h .channels))
 
 -- ---- of a header that bytes read to
 side-least : (mpeg1 two : Bool) → (9 ≤ sideBytes mpeg1 two) × (sideBytes mpeg1 two ≤ sideBytes mpeg1 true)
@@ -223,13 +211,6 @@ module _ (h : FrameHeader) (known : isHeader h ≡ true) where
 begin-lt : (h : FrameHeader) (i : SideInfo) → isSide h i ≡ true → i .«main_data_begin» < 2 ^ beginWidth (isMpeg1 (h .version))
 unfolding isSide isSideBy
 begin-lt h i e = ltb-true _ _ (both-of _ _ (both-of _ _ e .0) .0)
-
-pub begin-le : (h : FrameHeader) (i : SideInfo) → isSide h i ≡ true → i .«main_data_begin» ≤ 511
-begin-le h i e = go (isMpeg1 (h .version)) (begin-lt h i e)
-  where
-    go : (mpeg1 : Bool) → i .«main_data_begin» < 2 ^ beginWidth mpeg1 → i .«main_data_begin» ≤ 511
-    go true l = omega arith
-    go false l = omega arith
 
 -- the longest reservoir that a frame leaves
 pub reservoir-le : (h : FrameHeader) (i : SideInfo) → isHeader h ≡ true → isSide h i ≡ true → i .«main_data_begin» + mainSize h ≤ 1931

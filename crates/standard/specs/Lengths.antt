@@ -5,7 +5,6 @@ use Prim.Native.Nat.{ℕ, _+_, _-_, _*_, _/_, _%_}
 use lib.Dec.{ltb}
 use lib.ListN.{getD}
 use Rattle.standard.specs.Told.{pick}
-use Rattle.standard.specs.Bits.{one}
 use Rattle.standard.specs.declared.Shape.{Shape}
 use Rattle.standard.specs.declared.Shape.the-variants.{AllLong, AllShort}
 
@@ -63,27 +62,42 @@ unfoldable pub lowLengths : Bool → ℕ → List ℕ
 lowLengths false c = ordinaryLengths c
 lowLengths true c = intensityLengths (c / 2)
 
--- how many factors have each length, a line for each range: long bands, then short ones with three windows to each;
--- then the same for the second channel under intensity stereo
-unfoldable pub lowRows : List (List ℕ)
-lowRows =
+-- ---- how many factors have each of the four lengths, a line for each range of scalefac_compress
+unfoldable pub longCounts : List (List ℕ)
+longCounts =
     (6 ∷ 5 ∷ 5 ∷ 5 ∷ []) ∷
     (6 ∷ 5 ∷ 7 ∷ 3 ∷ []) ∷
     (11 ∷ 10 ∷ 0 ∷ 0 ∷ []) ∷
+    []
+
+-- three windows to each short band
+unfoldable pub shortCounts : List (List ℕ)
+shortCounts =
     (9 ∷ 9 ∷ 9 ∷ 9 ∷ []) ∷
     (9 ∷ 9 ∷ 12 ∷ 6 ∷ []) ∷
     (18 ∷ 18 ∷ 0 ∷ 0 ∷ []) ∷
+    []
+
+-- and for the second channel under intensity stereo
+unfoldable pub intensityLongCounts : List (List ℕ)
+intensityLongCounts =
     (7 ∷ 7 ∷ 7 ∷ 0 ∷ []) ∷
     (6 ∷ 6 ∷ 6 ∷ 3 ∷ []) ∷
     (8 ∷ 8 ∷ 5 ∷ 0 ∷ []) ∷
+    []
+
+unfoldable pub intensityShortCounts : List (List ℕ)
+intensityShortCounts =
     (12 ∷ 12 ∷ 12 ∷ 0 ∷ []) ∷
     (12 ∷ 9 ∷ 9 ∷ 6 ∷ []) ∷
     (15 ∷ 12 ∷ 9 ∷ 0 ∷ []) ∷
     []
 
-abbrev pub rowsFrom : Shape → ℕ
-rowsFrom AllLong = 0
-rowsFrom AllShort = 3
+abbrev pub countRows : Bool → Shape → List (List ℕ)
+countRows false AllLong = longCounts
+countRows false AllShort = shortCounts
+countRows true AllLong = intensityLongCounts
+countRows true AllShort = intensityShortCounts
 
 unfoldable pub lowCounts : Bool → Shape → ℕ → List ℕ
-lowCounts intensity k c = getD lowRows (6 * one intensity + rowsFrom k + lowRange intensity c) []
+lowCounts intensity k c = getD (countRows intensity k) (lowRange intensity c) []

@@ -1,4 +1,5 @@
 -- What every answer is. First what all parts use, then the parts in the order of the standard, then laws over them.
+pub mod Sizes
 pub mod Told
 pub mod Refusals
 pub mod Bits

@@ -7,6 +7,7 @@ use Prim.Native.Nat.{ℕ, zero, suc, _+_, _-_, _*_, _/_, _%_}
 use lib.Dec.{ltb, leb, eqb}
 use lib.IntN.{ℤ, pos, negℤ}
 use lib.ListN.{length, getD, take, drop, replicate}
+use Rattle.standard.specs.Sizes.{perSlot}
 use Rattle.standard.specs.Told.{pick}
 use Rattle.standard.specs.Bits.{value}
 use Rattle.standard.specs.Codes.{escapeWidth}
@@ -34,6 +35,8 @@ use Rattle.standard.specs.declared.Quad.the-variants.{Four, Dropped, NoQ
 abbrev pub Reader : Type 0
 Reader = ℕ → List Bool → Codeword
 
+-- ---- 2.4.1.7, Huffmancodebits, has for each pair: hcod; linbitsx where |x| is 15 and the table escapes; signx where x is not 0; linbitsy;
+-- signy. For each quad: hcod, then signv, signw, signx, signy, each where its number is not 0. The steps below take them one by one
 -- ---- one number
 -- where the value is 15, the escape's bits are added (linbits; of a table without escapes there are none)
 unfoldable pub escaped : ℕ → List Bool → Magnitude
@@ -160,7 +163,7 @@ quads word t (suc n) (x ∷ b) = thenQuads (quadOf word t (x ∷ b)) (λ (u : �
 -- quads as long as four numbers fit among the 576
 unfoldable pub thenRest : Reader → ℕ → ℕ → Numbers → Numbers
 thenRest word t n (halted r) = halted r
-thenRest word t n (got vs b) = prepend vs (quads word t ((576 - 2 * n) / 4) b)
+thenRest word t n (got vs b) = prepend vs (quads word t ((perSlot - 2 * n) / 4) b)
 
 unfoldable pub numbersBy : Reader → SlotRecord → Regions → List Bool → Numbers
 numbersBy word r NoRegions b = halted RegionOverrun
@@ -174,4 +177,4 @@ numbersOf word rate r (a ∷ b) = numbersBy word r (regionsOf rate r) (a ∷ b)
 
 -- 576 numbers: those that were read, then zeros
 unfoldable pub padded : List ℤ → List ℤ
-padded vs = vs ++ replicate (576 - length vs) (pos 0)
+padded vs = vs ++ replicate (perSlot - length vs) (pos 0)

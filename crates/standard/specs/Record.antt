@@ -2,11 +2,12 @@
 -- `mpeg1` says whether the version is MPEG-1.
 use mathlib.Core.Bool.{Bool, true, false, not, _&&_, Bool·beq}
 use mathlib.Core.List.{List, [], _∷_}
-use Prim.Native.Nat.{ℕ, _+_, _^_}
+use Prim.Native.Nat.{ℕ, _+_, _*_, _^_}
 use lib.Dec.{ltb, leb, eqb}
 use lib.IntN.{pos}
 use lib.Ieee.{Float, binary32, ofInt}
 use lib.ListN.{getD}
+use Rattle.standard.specs.Sizes.{mostBigValues}
 use Rattle.standard.specs.Told.{Told, told, pick, refused}
 use Rattle.standard.specs.Rows.{place}
 use Rattle.standard.specs.Same.{sameFloat}
@@ -60,33 +61,74 @@ abbrev pub region1Of : Shape → ℕ
 region1Of AllLong = 13
 region1Of AllShort = 12
 
--- read in MPEG-1 only; else it goes by scalefac_compress
-unfoldable pub preflagOf : Bool → List Bool → Bool
-preflagOf true b = flag b 56
-preflagOf false b = leb 500 (field b 29 9)
+-- ---- the fields in order, each where the one before it ends (11172-3, 2.4.1.7):
+--   part2_3_length 12 bits, big_values 9, global_gain 8, scalefac_compress c, window_switching_flag 1,
+--   switched: block_type 2, mixed_block_flag 1, table_select twice 5, subblock_gain three times 3,
+--   not switched: table_select three times 5, region0_count 4, region1_count 3,
+--   then preflag 1 (in MPEG-1), scalefac_scale 1, count1table_select 1.
+-- From the flag on, a place is told without the c bits of scalefac_compress, which are added to it
+abbrev bigValuesAt : ℕ
+bigValuesAt = 12
 
--- where the last two flags stand
+abbrev globalGainAt : ℕ
+globalGainAt = bigValuesAt + 9
+
+abbrev compressAt : ℕ
+compressAt = globalGainAt + 8
+
+abbrev switchingAt : ℕ
+switchingAt = compressAt
+
+abbrev typeAt : ℕ
+typeAt = switchingAt + 1
+
+abbrev mixedAt : ℕ
+mixedAt = typeAt + 2
+
+abbrev switchedTablesAt : ℕ
+switchedTablesAt = mixedAt + 1
+
+abbrev gainsAt : ℕ
+gainsAt = switchedTablesAt + 2 * 5
+
+abbrev tablesAt : ℕ
+tablesAt = switchingAt + 1
+
+abbrev region0At : ℕ
+region0At = tablesAt + 3 * 5
+
+abbrev region1At : ℕ
+region1At = region0At + 4
+
+abbrev afterWindow : ℕ
+afterWindow = region1At + 3
+
+-- preflag is read in MPEG-1 only, where c is 4; else it goes by scalefac_compress, of 9 bits
+unfoldable pub preflagOf : Bool → List Bool → Bool
+preflagOf true b = flag b (afterWindow + 4)
+preflagOf false b = leb 500 (field b compressAt 9)
+
 abbrev pub scaleAt : Bool → ℕ
-scaleAt true = 57
-scaleAt false = 61
+scaleAt true = afterWindow + 4 + 1
+scaleAt false = afterWindow + 9
 
 abbrev pub count1At : Bool → ℕ
-count1At true = 58
-count1At false = 62
+count1At true = scaleAt true + 1
+count1At false = scaleAt false + 1
 
 -- ---- the record where its window is not switched, c being the bits of scalefac_compress
 unfoldable pub longOf : Bool → ℕ → List Bool → SlotRecord
 longOf mpeg1 c b =
     record {
       «part2_3_length» = field b 0 12;
-      «big_values» = field b 12 9;
-      «global_gain» = field b 21 8;
-      «scalefac_compress» = field b 29 c;
+      «big_values» = field b bigValuesAt 9;
+      «global_gain» = field b globalGainAt 8;
+      «scalefac_compress» = field b compressAt c;
       «block_type» = Long;
       «subblock_gain» = gainOf 0 ∷ gainOf 0 ∷ gainOf 0 ∷ [];
-      «table_select» = field b (30 + c) 5 ∷ field b (35 + c) 5 ∷ field b (40 + c) 5 ∷ [];
-      «region0_count» = field b (45 + c) 4;
-      «region1_count» = field b (49 + c) 3;
+      «table_select» = field b (tablesAt + c) 5 ∷ field b (tablesAt + 5 + c) 5 ∷ field b (tablesAt + 10 + c) 5 ∷ [];
+      «region0_count» = field b (region0At + c) 4;
+      «region1_count» = field b (region1At + c) 3;
       preflag = preflagOf mpeg1 b;
       «scalefac_scale» = flag b (scaleAt mpeg1);
       «count1table_select» = flag b (count1At mpeg1);
@@ -97,12 +139,12 @@ unfoldable pub switchedOf : Bool → ℕ → BlockType → List Bool → SlotRec
 switchedOf mpeg1 c t b =
     record {
       «part2_3_length» = field b 0 12;
-      «big_values» = field b 12 9;
-      «global_gain» = field b 21 8;
-      «scalefac_compress» = field b 29 c;
+      «big_values» = field b bigValuesAt 9;
+      «global_gain» = field b globalGainAt 8;
+      «scalefac_compress» = field b compressAt c;
       «block_type» = t;
-      «subblock_gain» = gainOf (field b (43 + c) 3) ∷ gainOf (field b (46 + c) 3) ∷ gainOf (field b (49 + c) 3) ∷ [];
-      «table_select» = field b (33 + c) 5 ∷ field b (38 + c) 5 ∷ 0 ∷ [];
+      «subblock_gain» = gainOf (field b (gainsAt + c) 3) ∷ gainOf (field b (gainsAt + 3 + c) 3) ∷ gainOf (field b (gainsAt + 6 + c) 3) ∷ [];
+      «table_select» = field b (switchedTablesAt + c) 5 ∷ field b (switchedTablesAt + 5 + c) 5 ∷ 0 ∷ [];
       «region0_count» = region0Of (shapeBy t);
       «region1_count» = region1Of (shapeBy t);
       preflag = preflagOf mpeg1 b;
@@ -113,11 +155,11 @@ switchedOf mpeg1 c t b =
 -- big_values above 288; in a switched window block type 0, and then the mixed flag
 unfoldable pub recordIn : Bool → ℕ → List Bool → Told SlotRecord
 recordIn mpeg1 c b =
-    pick (ltb 288 (field b 12 9)) (refused TooManyPairs)
-    (pick (not (flag b (29 + c))) (told (longOf mpeg1 c b))
-    (pick (eqb (field b (30 + c) 2) 0) (refused ForbiddenBlock)
-    (pick (flag b (32 + c)) (refused MixedBlock)
-    (told (switchedOf mpeg1 c (blockOf (field b (30 + c) 2)) b)))))
+    pick (ltb mostBigValues (field b bigValuesAt 9)) (refused TooManyPairs)
+    (pick (not (flag b (switchingAt + c))) (told (longOf mpeg1 c b))
+    (pick (eqb (field b (typeAt + c) 2) 0) (refused ForbiddenBlock)
+    (pick (flag b (mixedAt + c)) (refused MixedBlock)
+    (told (switchedOf mpeg1 c (blockOf (field b (typeAt + c) 2)) b)))))
 
 unfoldable pub recordOf : Bool → List Bool → Told SlotRecord
 recordOf mpeg1 b = recordIn mpeg1 (compressWidth mpeg1) b
@@ -179,7 +221,7 @@ isPreflag false r = Bool·beq (r .preflag) (leb 500 (r .«scalefac_compress»))
 
 unfoldable pub isHead : Bool → SlotRecord → Bool
 isHead mpeg1 r =
-    ltb (r .«part2_3_length») 4096 && leb (r .«big_values») 288 && (ltb (r .«global_gain») 256 && ltb (r .«scalefac_compress») (2 ^ compressWidth mpeg1))
+    ltb (r .«part2_3_length») 4096 && leb (r .«big_values») mostBigValues && (ltb (r .«global_gain») 256 && ltb (r .«scalefac_compress») (2 ^ compressWidth mpeg1))
     && isPreflag mpeg1 r
 
 unfoldable pub isRecord : Bool → SlotRecord → Bool

@@ -2,9 +2,9 @@
 use mathlib.Core.Path.{_≡_, refl, sym, ap, _∙_}
 use mathlib.Core.List.{List, [], _∷_}
 use Prim.Native.Nat.{ℕ}
-use native.Mathlib.Omega.{arith}
 use lib.ListN.{getD}
 use Rattle.standard.specs.Told.{Told, refused, told, toldOr, verdictOf}
+use Rattle.standard.specs.ToldLaws.{clash}
 use Rattle.standard.specs.Refusals.{numberOf, toldHeader, Answers}
 use Rattle.standard.specs.declared.Refusal.{Refusal}
 use Rattle.standard.specs.declared.Refusal.the-variants.{UnfitMemory, MadeUpRecord, AbsentBytes, NoSync, ReservedVersion, ReservedLayer, OtherLayer, FreeBitrate, ForbiddenRate, ReservedEmphasis, TooManyPairs, ForbiddenBlock, MixedBlock, ShortReservoir, MissingBits, FactorOverrun, LostShare, RegionOverrun, PairOverrun, NoCodeword}
@@ -14,10 +14,10 @@ use Rattle.standard.specs.declared.HeaderAnswer.{HeaderAnswer}
 use Rattle.standard.specs.declared.HeaderAnswer.the-variants.{Header, NoHeader}
 
 pub apart : {A B : Type 0} {r : Refusal} {a : A} → refused r ≡ told a → B
-apart e = let z : _≡_ {A = ℕ} 0 1 = cc in let w : ⊥ = omega arith in absurd w
+apart e = clash cc
 
 pub unlike : {B : Type 0} {r : Refusal} → Refused r ≡ Accepted → B
-unlike e = let z : _≡_ {A = ℕ} 0 1 = cc in let w : ⊥ = omega arith in absurd w
+unlike e = clash cc
 
 pub one-reason : {A : Type 0} {r q : Refusal} → _≡_ {A = Told A} (refused r) (refused q) → r ≡ q
 one-reason e = cc

@@ -5,6 +5,7 @@ use Prim.Native.Nat.{ℕ, zero, suc, _+_, _-_, _*_}
 use lib.Dec.{ltb}
 use lib.IntN.{ℤ, pos}
 use lib.ListN.{length, getD, take, drop}
+use Rattle.standard.specs.Sizes.{perSlot}
 use Rattle.standard.specs.Told.{Told, told, pick, refused}
 use Rattle.standard.specs.Bands.{rowOf, shortRows, shortStart}
 use Rattle.standard.specs.Header.{isMpeg1, isHeader}
@@ -35,6 +36,10 @@ unfoldable pub gathered : List ℕ → List ℤ → List ℤ
 gathered [] d = []
 gathered (i ∷ is) d = getD d i (pos 0) ∷ gathered is d
 
+-- the numbers of a band in their new order
+unfoldable pub bandNumbers : ℕ → ℕ → List ℤ → List ℤ
+bandNumbers from w d = gathered (bandOrder from w 0 w) d
+
 -- the first band that is a short one, of 13: there is none among long ones
 abbrev pub firstShort : Shape → ℕ
 firstShort AllLong = 13
@@ -42,9 +47,9 @@ firstShort AllShort = 0
 
 -- the first 576 numbers of a slot, those of its short bands in their new order; others stay
 unfoldable pub reorderedFrom : SampleRate → ℕ → List ℤ → List ℤ
-reorderedFrom rate k d = take (3 * shortStart rate k) d ++ gathered (orderOf rate k) (take 576 d) ++ drop 576 d
+reorderedFrom rate k d = take (3 * shortStart rate k) d ++ gathered (orderOf rate k) (take perSlot d) ++ drop perSlot d
 
 unfoldable pub reorderOf : FrameHeader → SlotRecord → List ℤ → Told (List ℤ)
 reorderOf h r d =
-    pick (ltb (length d) 576) (refused UnfitMemory)
+    pick (ltb (length d) perSlot) (refused UnfitMemory)
     (pick (isHeader h && isRecord (isMpeg1 (h .version)) r) (told (reorderedFrom (h .rate) (firstShort (shapeOf r)) d)) (refused MadeUpRecord))

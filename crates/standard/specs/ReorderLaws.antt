@@ -17,7 +17,7 @@ use Rattle.standard.specs.Told.{told, refused}
 use Rattle.standard.specs.ToldLaws.{never, both-of, both, picked, passed}
 use Rattle.standard.specs.Header.{isMpeg1, isHeader}
 use Rattle.standard.specs.Record.{shapeOf, isRecord}
-use Rattle.standard.specs.Reorder.{bandOrder, orderFrom, orderOf, gathered, firstShort, reorderedFrom, reorderOf}
+use Rattle.standard.specs.Reorder.{bandOrder, orderFrom, orderOf, gathered, bandNumbers, firstShort, reorderedFrom, reorderOf}
 use Rattle.standard.specs.declared.SampleRate.{SampleRate}
 use Rattle.standard.specs.declared.FrameHeader.{FrameHeader}
 use Rattle.standard.specs.declared.SlotRecord.{SlotRecord}
@@ -39,10 +39,6 @@ length-band : (from w j n : ℕ) → length (bandOrder from w j n) ≡ 3 * n
 unfolding bandOrder
 length-band from w j zero = refl
 length-band from w j (suc n) = let p : suc (suc (suc (3 * n))) ≡ 3 * suc n = omega arith in ap (λ (m : ℕ). suc (suc (suc m))) (length-band from w (suc j) n) ∙ p
-
--- the numbers of a band in their new order
-unfoldable pub bandNumbers : ℕ → ℕ → List ℤ → List ℤ
-bandNumbers from w d = gathered (bandOrder from w 0 w) d
 
 pub length-band-numbers : (from w : ℕ) (d : List ℤ) → length (bandNumbers from w d) ≡ 3 * w
 unfolding bandNumbers

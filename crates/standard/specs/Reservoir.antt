@@ -5,6 +5,7 @@ use mathlib.Core.List.{List, _++_}
 use Prim.Native.Nat.{ℕ, _+_, _-_}
 use lib.Dec.{ltb}
 use lib.ListN.{length, take, drop}
+use Rattle.standard.specs.Sizes.{reservoirBytes}
 use Rattle.standard.specs.Told.{Told, refused, told, pick}
 use Rattle.standard.specs.declared.Reservoir.{Reservoir}
 use Rattle.standard.specs.declared.ReservoirAnswer.{ReservoirAnswer}
@@ -45,12 +46,13 @@ bytesAfter lent (keeping bs) = bs ++ drop (length bs) lent
 
 -- less than 4,096 bytes lent, or a stated length of more than that
 unfoldable pub unfit : List ℕ → ℕ → Bool
-unfit lent stated = ltb (length lent) 4096 || ltb 4096 stated
+unfit lent stated = ltb (length lent) reservoirBytes || ltb reservoirBytes stated
 
--- the call, of which no frame's main data is too long for the memory
+-- the call, for any main data and any main_data_begin: where the two together are more than the memory holds, it is refused. A frame's are at most
+-- 1,931 bytes
 unfoldable pub turnIn : List ℕ → ℕ → ℕ → List ℕ → Told Turn
 turnIn lent stated begin main =
-    pick (unfit lent stated || ltb 4096 (begin + length main)) (refused UnfitMemory) (told (turnOf begin (take stated lent) main))
+    pick (unfit lent stated || ltb reservoirBytes (begin + length main)) (refused UnfitMemory) (told (turnOf begin (take stated lent) main))
 
 unfoldable pub turnVerdict : Told Turn → Verdict
 turnVerdict (refused r) = Refused r

@@ -18,9 +18,9 @@ use Rattle.standard.specs.SideLaws.{slot-record, small-record}
 use Rattle.standard.specs.Factors.{planOf, sourcesOf, planBits}
 use Rattle.standard.specs.Numbers.{Numbers, halted, got}
 use Rattle.standard.specs.NumbersLaws.{Bounded, AtMost, Gives, numbers-bounded, published-fits}
-use Rattle.standard.specs.Slots.{Outcome, stopped, holds, anyOf, withFactors, slotBy, slotOf, slotIn, thenSlots, slotsFrom, slotsOf, readSlots}
+use Rattle.standard.specs.Slots.{Outcome, stopped, holds, anyOf, withFactors, slotBy, slotOf, slotIn, thenSlots, slotsFrom, slotsOf, readSlots, startOf, records, outcomeOf}
 use Rattle.standard.specs.HaltLaws.{allowed, slot-allowed, isOther, not-alien}
-use Rattle.standard.specs.SlotsLaws.{startOf, records, outcomeOf, length-slots, few-numbers}
+use Rattle.standard.specs.SlotsLaws.{length-slots, few-numbers}
 use Rattle.standard.specs.declared.FrameHeader.{FrameHeader}
 use Rattle.standard.specs.declared.SideInfo.{SideInfo}
 use Rattle.standard.specs.declared.SlotRecord.{SlotRecord}

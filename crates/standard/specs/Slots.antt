@@ -8,6 +8,7 @@ use lib.Dec.{ltb, leb, eqb}
 use lib.IntN.{ℤ}
 use lib.ListN.{length, getD, take, drop, replicate}
 use lib.Seq.{paste}
+use Rattle.standard.specs.Sizes.{perSlot, perFrame}
 use Rattle.standard.specs.Told.{Told, told, pick, toldOr, verdictOf, refused}
 use Rattle.standard.specs.Bits.{bits}
 use Rattle.standard.specs.Codes.{wordOf}
@@ -99,30 +100,53 @@ slotsFrom h i s at done (r ∷ rs) =
     thenSlots (slotIn s at (settingOf h i (length done) r) r (isStopped (mateOf h done)) (longOf (mateOf h done)))
     (λ (o : Outcome). slotsFrom h i s (at + r .«part2_3_length») (done ++ (o ∷ [])) rs)
 
+-- the records of the frame's slots
+abbrev pub records : FrameHeader → SideInfo → List SlotRecord
+records h i = take (granules h * channelCount h) (i .slots)
+
 unfoldable pub slotsOf : FrameHeader → SideInfo → List ℕ → List Outcome
-slotsOf h i s = slotsFrom h i s 0 [] (take (granules h * channelCount h) (i .slots))
+slotsOf h i s = slotsFrom h i s 0 [] (records h i)
+
+-- the outcome of the n-th slot
+unfoldable pub outcomeOf : FrameHeader → SideInfo → List ℕ → ℕ → Outcome
+outcomeOf h i s n = getD (slotsOf h i s) n (stopped MissingBits)
+
+-- where the n-th slot starts: the lengths before it
+unfoldable pub startOf : ℕ → List SlotRecord → ℕ
+startOf zero rs = 0
+startOf (suc n) [] = 0
+startOf (suc n) (r ∷ rs) = r .«part2_3_length» + startOf n rs
 
 -- ---- what is answered
 unfoldable pub slotTold : Outcome → SlotAnswer
 slotTold (stopped r) = record { outcome = NotRead r; long = replicate 22 0; short = replicate 39 0 }
 slotTold (holds long short vs) = record { outcome = Read (length vs); long = long; short = short }
 
-unfoldable pub lackingSlot : SlotAnswer
+abbrev pub lackingSlot : SlotAnswer
 lackingSlot = record { outcome = Lacking; long = replicate 22 0; short = replicate 39 0 }
 
 -- four answers: the slots', and then lacking ones
 unfoldable pub slotsTold : List Outcome → List SlotAnswer
 slotsTold os = map slotTold os ++ replicate (4 - length os) lackingSlot
 
+-- the lent numbers: the n-th slot's are the 576 from 576 n on
+unfoldable pub partOf : ℕ → List ℤ → List ℤ
+partOf at d = take perSlot (drop at d)
+
+-- a slot's own 576 numbers after it
+unfoldable pub ownOf : Outcome → List ℤ → List ℤ
+ownOf (stopped r) d = d
+ownOf (holds long short vs) d = take perSlot (padded vs)
+
 -- the lent numbers after a slot, its own being the 576 from a place on: a refused slot changes none
 unfoldable pub numbersAfter : Outcome → ℕ → List ℤ → List ℤ
 numbersAfter (stopped r) at d = d
-numbersAfter (holds long short vs) at d = paste d at (padded vs) 576
+numbersAfter (holds long short vs) at d = paste d at (padded vs) perSlot
 
 -- and after slots in turn
 unfoldable pub numbersFrom : ℕ → List Outcome → List ℤ → List ℤ
 numbersFrom at [] d = d
-numbersFrom at (o ∷ os) d = numbersFrom (at + 576) os (numbersAfter o at d)
+numbersFrom at (o ∷ os) d = numbersFrom (at + perSlot) os (numbersAfter o at d)
 
 -- what is answered of the slots, and the lent numbers after them
 pub record SlotsRead (d : List ℤ) (t : Told (List Outcome)) (r : SlotsAnswer) (left : List ℤ) : Type 0 where
@@ -133,5 +157,5 @@ pub record SlotsRead (d : List ℤ) (t : Told (List Outcome)) (r : SlotsAnswer) 
 -- ---- the call on main data of any length, with d numbers lent
 unfoldable pub readSlots : FrameHeader → SideInfo → List ℕ → ℕ → Told (List Outcome)
 readSlots h i s d =
-    pick (ltb d 2304) (refused UnfitMemory)
+    pick (ltb d perFrame) (refused UnfitMemory)
     (pick (isHeader h && isSide h i) (told (slotsOf h i s)) (refused MadeUpRecord))

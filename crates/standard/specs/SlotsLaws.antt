@@ -21,7 +21,7 @@ use Rattle.standard.specs.Header.{isHeader, granules, channelCount}
 use Rattle.standard.specs.HaltLaws.{allowed, slot-allowed, isOther, not-missing}
 use Rattle.standard.specs.SideInfo.{isSide}
 use Rattle.standard.specs.Numbers.{padded}
-use Rattle.standard.specs.Slots.{Outcome, stopped, holds, slotOf, slotIn, thenSlots, slotsFrom, slotsOf, slotTold, lackingSlot, slotsTold, numbersAfter, numbersFrom, readSlots, SlotsRead}
+use Rattle.standard.specs.Slots.{Outcome, stopped, holds, slotOf, slotIn, thenSlots, slotsFrom, slotsOf, slotTold, lackingSlot, slotsTold, numbersAfter, numbersFrom, readSlots, SlotsRead, records, startOf, outcomeOf, partOf, ownOf}
 use Rattle.standard.specs.declared.Setting.{Setting}
 use Rattle.standard.specs.declared.FrameHeader.{FrameHeader}
 use Rattle.standard.specs.declared.SlotRecord.{SlotRecord}
@@ -47,12 +47,6 @@ pub slotIn-read : (s : List ℕ) (at : ℕ) (g : Setting) (r : SlotRecord) (lost
     → slotIn s at g r lost old ≡ slotOf g r lost old (bits s at (r .«part2_3_length»))
 unfolding slotIn
 slotIn-read s at g r lost old h = picked _ (le-leb _ _ h)
-
--- where the n-th slot starts: the lengths before it
-unfoldable pub startOf : ℕ → List SlotRecord → ℕ
-startOf zero rs = 0
-startOf (suc n) [] = 0
-startOf (suc n) (r ∷ rs) = r .«part2_3_length» + startOf n rs
 
 module _ (h : FrameHeader) (i : SideInfo) where
   -- ---- missing exactly when
@@ -92,46 +86,30 @@ module _ (h : FrameHeader) (i : SideInfo) where
   length-from s [] at done = refl
   length-from s (r ∷ rs) at done = ap suc (length-from s rs (at + r .«part2_3_length») _)
 
-  -- the records of the frame's slots
-  abbrev pub records : List SlotRecord
-  records = take (granules h * channelCount h) (i .slots)
-
-  pub length-slots : (s : List ℕ) → length (slotsOf h i s) ≡ length records
+  pub length-slots : (s : List ℕ) → length (slotsOf h i s) ≡ length (records h i)
   unfolding slotsOf
-  length-slots s = length-from s records 0 []
-
-  -- the outcome of the n-th slot
-  unfoldable pub outcomeOf : List ℕ → ℕ → Outcome
-  outcomeOf s n = getD (slotsOf h i s) n (stopped MissingBits)
+  length-slots s = length-from s (records h i) 0 []
 
   -- 20 exactly when the lengths up to and including the slot's exceed the bits there are
-  pub exactly-missing : (s : List ℕ) (n : ℕ) → n < length records
-      → (outcomeOf s n ≡ stopped MissingBits) ↔ (8 * length s < startOf (suc n) records)
+  pub exactly-missing : (s : List ℕ) (n : ℕ) → n < length (records h i)
+      → (outcomeOf h i s n ≡ stopped MissingBits) ↔ (8 * length s < startOf (suc n) (records h i))
   unfolding outcomeOf slotsOf allowed isOther
   exactly-missing s n l = (go, back)
     where
-      go : getD (slotsFrom h i s 0 [] records) n (stopped MissingBits) ≡ stopped MissingBits → 8 * length s < startOf (suc n) records
+      go : getD (slotsFrom h i s 0 [] (records h i)) n (stopped MissingBits) ≡ stopped MissingBits → 8 * length s < startOf (suc n) (records h i)
       go e =
-          elim (decLe (startOf (suc n) records) (8 * length s)) [ yes k ↦ never (sym (ap (allowed (isOther 20)) e) ∙ present-from s records n 0 [] l (omega arith)) | no k ↦ omega arith ]
+          elim (decLe (startOf (suc n) (records h i)) (8 * length s)) [ yes k ↦ never (sym (ap (allowed (isOther 20)) e) ∙ present-from s (records h i) n 0 [] l (omega arith)) | no k ↦ omega arith ]
 
-      back : 8 * length s < startOf (suc n) records → getD (slotsFrom h i s 0 [] records) n (stopped MissingBits) ≡ stopped MissingBits
-      back k = missing-from s records n 0 [] (omega arith)
+      back : 8 * length s < startOf (suc n) (records h i) → getD (slotsFrom h i s 0 [] (records h i)) n (stopped MissingBits) ≡ stopped MissingBits
+      back k = missing-from s (records h i) n 0 [] (omega arith)
 
   -- from the same bytes with any others after them, a slot that is not missing comes to the same
-  pub same-outcome : (xs ys : List ℕ) (n : ℕ) → (outcomeOf xs n ≡ stopped MissingBits → ⊥) → outcomeOf (xs ++ ys) n ≡ outcomeOf xs n
+  pub same-outcome : (xs ys : List ℕ) (n : ℕ) → (outcomeOf h i xs n ≡ stopped MissingBits → ⊥) → outcomeOf h i (xs ++ ys) n ≡ outcomeOf h i xs n
   unfolding outcomeOf slotsOf
   same-outcome xs ys n found =
-      elim (decLe (startOf (suc n) records) (8 * length xs)) [ yes k ↦ same-from xs ys records n 0 [] (omega arith) | no k ↦ absurd (found (missing-from xs records n 0 [] (omega arith))) ]
+      elim (decLe (startOf (suc n) (records h i)) (8 * length xs)) [ yes k ↦ same-from xs ys (records h i) n 0 [] (omega arith) | no k ↦ absurd (found (missing-from xs (records h i) n 0 [] (omega arith))) ]
 
--- ---- the lent numbers: the n-th slot's are the 576 from 576 n on
-unfoldable pub partOf : ℕ → List ℤ → List ℤ
-partOf at d = take 576 (drop at d)
-
--- a slot's own 576 numbers after it
-unfoldable pub ownOf : Outcome → List ℤ → List ℤ
-ownOf (stopped r) d = d
-ownOf (holds long short vs) d = take 576 (padded vs)
-
+-- ---- the lent numbers
 pub padded-long : (vs : List ℤ) → 576 ≤ length (padded vs)
 unfolding padded
 padded-long vs = simp (length-append, length-replicate) (omega arith)
@@ -301,19 +279,14 @@ lacking-from [] (suc k) (suc n) h = lacking-from [] k n (omega arith)
 lacking-from (x ∷ os) k zero h = absurd (omega arith)
 lacking-from (x ∷ os) k (suc n) h = lacking-from os k n (omega arith)
 
--- an answer that says that the frame lacks the slot
-abbrev pub lackingAnswer : SlotAnswer
-lackingAnswer = record { outcome = Lacking; long = replicate 22 0; short = replicate 39 0 }
-
 module _ (l : List SlotAnswer) (os : List Outcome) (e : l ≡ slotsTold os) (n : ℕ) where
-  at-slot : getD l n lackingAnswer ≡ getD (slotsTold os) n lackingSlot
-  unfolding lackingSlot
-  at-slot = ap (λ (m : List SlotAnswer). getD m n lackingAnswer) e
+  at-slot : getD l n lackingSlot ≡ getD (slotsTold os) n lackingSlot
+  at-slot = ap (λ (m : List SlotAnswer). getD m n lackingSlot) e
 
-  pub told-at : n < length os → getD l n lackingAnswer ≡ slotTold (getD os n (stopped MissingBits))
+  pub told-at : n < length os → getD l n lackingSlot ≡ slotTold (getD os n (stopped MissingBits))
   unfolding slotsTold
   told-at h = at-slot ∙ told-from os (replicate (4 - length os) lackingSlot) n (stopped MissingBits) lackingSlot h
 
-  pub lacking-at : length os ≤ n → getD l n lackingAnswer ≡ lackingSlot
+  pub lacking-at : length os ≤ n → getD l n lackingSlot ≡ lackingSlot
   unfolding slotsTold
   lacking-at h = at-slot ∙ lacking-from os (4 - length os) n h

@@ -22,7 +22,7 @@ use Rattle.standard.specs.SideBytes.{side-known}
 use Rattle.standard.specs.SlotsLaws.{length-slots}
 use Rattle.standard.specs.SlotBounds.{slots-le}
 use Rattle.standard.specs.Reservoir.{reaching, adding, turnOf, unfit}
-use Rattle.standard.specs.Frame.{Step, noStep, shortStep, fullStep, withTurn, frameOf, frameCall}
+use Rattle.standard.specs.Frame.{Step, noStep, shortStep, fullStep, withTurn, frameOf, frameCall, mainOf}
 use Rattle.standard.specs.FrameLaws.{call-few-numbers, frame-no-header, frame-no-side, frame-absent, frame-turn}
 use Rattle.standard.specs.declared.FrameHeader.{FrameHeader}
 use Rattle.standard.specs.declared.SlotRecord.{SlotRecord}
@@ -76,10 +76,6 @@ side-other h s =
     either-way (λ (t : Told SideInfo). other t ≡ true) _ _ _ (λ e. pick-other _ _ _ refl (slots-other _ _ _ _ (records-other _ _ _))) (λ e. refl)
 
 -- ---- the three ways
--- the main data of a frame's bytes
-abbrev pub mainOf : FrameHeader → List ℕ → List ℕ
-mainOf h s = take (mainSize h) (drop (headerSize h + sideSize h) s)
-
 -- a frame all of whose bytes are there
 pub record Entire (s : List ℕ) (h : FrameHeader) (i : SideInfo) : Type 0 where
   pub header : headerOf s ≡ told h

@@ -14,13 +14,17 @@ pub passed : {A : Type 0} {b : Bool} (x : A) {y : A} → b ≡ false → pick b 
 unfolding pick
 passed {A} {b} x {y} e = ap (λ (t : Bool). pick t x y) e
 
+-- what is built otherwise is not the same: `clash cc`, from an equation between two constructors
+pub clash : {A : Type 0} → _≡_ {A = ℕ} 0 1 → A
+clash z = let w : ⊥ = omega arith in absurd w
+
 pub never : {A : Type 0} → false ≡ true → A
-never e = let z : _≡_ {A = ℕ} 0 1 = cc in let w : ⊥ = omega arith in absurd w
+never e = clash cc
 
 -- where something was told, no refusal was met on the way
 pub no-refusal : {A : Type 0} (b : Bool) (r : Refusal) (y : Told A) (a : A) → pick b (refused r) y ≡ told a → (b ≡ false) × (y ≡ told a)
 unfolding pick
-no-refusal true r y a e = let z : _≡_ {A = ℕ} 0 1 = cc in let w : ⊥ = omega arith in absurd w
+no-refusal true r y a e = clash cc
 no-refusal false r y a e = (refl, e)
 
 pub told-is : {A : Type 0} {a b : A} → told a ≡ told b → a ≡ b

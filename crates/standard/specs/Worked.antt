@@ -9,7 +9,7 @@ use Rattle.standard.specs.Bits.{bitAt, bits, between, valueFrom, value, 
 use Rattle.standard.specs.Rows.{member, later, place}
 use Rattle.standard.specs.Codes.{lowBits, pair, quad, starts, first, begun, decode, silent, table1, tableB, codes, published, wordOf, escapes, escapeWidth}
 use Rattle.standard.specs.Bands.{longRows, shortRows, longStart, shortStart}
-use Rattle.standard.specs.Lengths.{slenRows, slen1, slen2, rangeIn, lowRange, ordinaryLengths, intensityLengths, lowLengths, lowRows, lowCounts}
+use Rattle.standard.specs.Lengths.{slenRows, slen1, slen2, rangeIn, lowRange, ordinaryLengths, intensityLengths, lowLengths, longCounts, shortCounts, intensityLongCounts, intensityShortCounts, lowCounts}
 use Rattle.standard.specs.Header.{bitrates, rates, versionOf, emphasisOf, channelsOf, fields, lastBytes, secondByte, headerOf, sameBitrate, sameRate, isHeader, headerSize, dataSize, frameLength, sideSize, mainSize, granules, channelCount, noHeader}
 use Rattle.standard.specs.Record.{blockOf, preflagOf, longOf, switchedOf, recordIn, recordOf, absent}
 use Rattle.standard.specs.SideInfo.{thenRecords, recordsOf, thenSide, sideIn, sideFrom, sideOf, noSide}
@@ -54,7 +54,7 @@ reachingBack n = set frameF 4 n
 
 -- ---- a frame's step from its bytes and the reservoir's, and its parts
 unfoldable pub step : List ℕ → List ℕ → Step
-unfolding pick bitAt bits between valueFrom value field flag fieldAt member later place lowBits pair quad starts first begun decode silent table1 tableB codes published wordOf escapes escapeWidth longRows shortRows longStart shortStart slenRows slen1 slen2 rangeIn lowRange ordinaryLengths intensityLengths lowLengths lowRows lowCounts bitrates rates versionOf emphasisOf channelsOf fields lastBytes secondByte headerOf sameBitrate sameRate isHeader headerSize dataSize frameLength sideSize mainSize granules channelCount noHeader blockOf preflagOf longOf switchedOf recordIn recordOf absent thenRecords recordsOf thenSide sideIn sideFrom sideOf noSide planBy planOf group groupsFrom planBits factorsFrom longFactors shortFactors escaped magnitudeOf signOf signed further thenSign numberIn twoLast twoFirst twoOf pairAfter pairWord pairOf quadLast quadFirst quadWord quadOf regionsBy tableAt prepend thenPairs pairs thenQuads quads thenRest numbersBy numbersOf padded isStopped longFactorsOf anyOf withFactors slotBy slotOf sharesOf settingOf alone mateOf slotIn thenSlots slotsFrom slotsOf reaching adding turnOf noStep shortStep fullStep withTurn withSide withHeader frameOf
+unfolding pick bitAt bits between valueFrom value field flag fieldAt member later place lowBits pair quad starts first begun decode silent table1 tableB codes published wordOf escapes escapeWidth longRows shortRows longStart shortStart slenRows slen1 slen2 rangeIn lowRange ordinaryLengths intensityLengths lowLengths longCounts shortCounts intensityLongCounts intensityShortCounts lowCounts bitrates rates versionOf emphasisOf channelsOf fields lastBytes secondByte headerOf sameBitrate sameRate isHeader headerSize dataSize frameLength sideSize mainSize granules channelCount noHeader blockOf preflagOf longOf switchedOf recordIn recordOf absent thenRecords recordsOf thenSide sideIn sideFrom sideOf noSide planBy planOf group groupsFrom planBits factorsFrom longFactors shortFactors escaped magnitudeOf signOf signed further thenSign numberIn twoLast twoFirst twoOf pairAfter pairWord pairOf quadLast quadFirst quadWord quadOf regionsBy tableAt prepend thenPairs pairs thenQuads quads thenRest numbersBy numbersOf padded isStopped longFactorsOf anyOf withFactors slotBy slotOf sharesOf settingOf alone mateOf slotIn thenSlots slotsFrom slotsOf reaching adding turnOf noStep shortStep fullStep withTurn withSide withHeader frameOf
 step s old = frameOf s old
 
 unfoldable pub verdict : List ℕ → Verdict

@@ -1,5 +1,16 @@
 // What is read from a card, and what is answered. There are no functions here: the definitions of specs/ go by these types.
 
+// ---- sizes, by the names that Sizes.antt has for them
+pub const SLOT_NUMBERS: usize = 576;
+
+pub const FRAME_NUMBERS: usize = 2304;
+
+pub const MOST_BIG_VALUES: u16 = 288;
+
+pub const RESERVOIR_BYTES: usize = 4096;
+
+// ---- the types
+
 // The document that a frame follows: ISO/IEC 11172-3, ISO/IEC 13818-3, or none (MPEG-2.5).
 pub enum MpegVersion {
     Mpeg1,

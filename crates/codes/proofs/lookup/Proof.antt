@@ -18,7 +18,7 @@ use Rattle.bits.proofs.bit.Reads as bit-reads
 use Rattle.bits.proofs.left.Reads as left-reads
 use Rattle.codes.proofs.child.Reads as child-reads
 use Rattle.codes.proofs.descend.Reads as descend-reads
-use Rattle.codes.proofs.one.Reads as one-reads
+use Rattle.bits.proofs.one.Reads as one-reads
 use Rattle.codes.proofs.reach.Reads as reach-reads
 use Rattle.codes.proofs.start.Reads as start-reads
 

@@ -4,6 +4,8 @@ use Rattle.bits.proofs.bit.Reads as bit
 use Rattle.bits.proofs.bit.Kinds as bit-kinds
 use Rattle.bits.proofs.field.Reads as field
 use Rattle.bits.proofs.field.Kinds as field-kinds
+use Rattle.bits.proofs.one.Reads as one
+use Rattle.bits.proofs.one.Kinds as one-kinds
 use Rattle.bits.proofs.left.Reads as left
 use Rattle.bits.proofs.left.Kinds as left-kinds
 
@@ -12,6 +14,9 @@ bit-unique κs a x y s t p q = alike p q
 
 pub field-unique : OneAnswer field-kinds.ps field-kinds.r field.Post
 field-unique κs a x y s t p q = alike p q
+
+pub one-unique : OneAnswer one-kinds.ps one-kinds.r one.Post
+one-unique κs a x y s t p q = alike p q
 
 pub left-unique : OneAnswer left-kinds.ps left-kinds.r left.Post
 left-unique κs a x y s t p q = alike p q

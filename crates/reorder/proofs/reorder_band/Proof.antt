@@ -11,7 +11,7 @@ use mir.Syntax.{w32}
 use mir.Val.{SFits}
 use mir.ValLaws.{toZ-ofZ}
 use Rattle.standard.specs.CopyLaws.{Copying, copying-begin, copying-end}
-use Rattle.standard.specs.ReorderLaws.{bandNumbers}
+use Rattle.standard.specs.Reorder.{bandNumbers}
 use Rattle.reorder.proofs.Bands.{band-turn}
 use Rattle.reorder.proofs.reorder_band.Statement.{statement}
 use Rattle.reorder.proofs.reorder_band.Tie as tie

@@ -11,7 +11,7 @@ use lib.Pow.{pow-mono}
 use Rattle.standard.specs.Told.{pick}
 use Rattle.standard.specs.Bits.{bits, value, fieldAt}
 use Rattle.standard.specs.BitsLaws.{take-bits, fieldAt-lt}
-use Rattle.standard.specs.FactorsLaws.{widthOf, factorBy}
+use Rattle.standard.specs.Factors.{widthOf, factorBy}
 use Rattle.scale_factors.specs.Groups.{sourceOf}
 use borrow.Author.Needs.{needs}
 use Rattle.scale_factors.proofs.read_factor.Statement.{statement}

@@ -4,9 +4,9 @@ use mathlib.Core.Path.{ap, _∙_}
 use native.Mathlib.Omega.{arith}
 use borrow.Author.Needs.{needs}
 use Rattle.standard.specs.Factors.{sourcesOf, planBits}
-use Rattle.standard.specs.FactorsLaws.{few-factors, plan-small}
+use Rattle.standard.specs.FactorsLaws.{few-factors, plan-small, room}
 use Rattle.standard.specs.declared.Plan.{Plan}
-use Rattle.scale_factors.proofs.Plans.{plan-fit, places, long-read, short-read}
+use Rattle.scale_factors.proofs.Plans.{plan-fit, long-read, short-read}
 use Rattle.scale_factors.proofs.read_scale_factors.Statement.{statement}
 use Rattle.scale_factors.proofs.read_scale_factors.Tie as tie
 
@@ -27,7 +27,7 @@ long-count-requires c κs = search needs
 long-places-requires : tie.Need-long-places-requires
 long-places-requires c κs =
     let g = c .before .before .before .before .before .args .g in
-    omega (arith, c .long-count .ensures, places (g .mpeg1) (c .before .shape-of .result))
+    omega (arith, c .long-count .ensures, room (g .mpeg1) (c .before .shape-of .result))
 
 short-count-requires : tie.Need-short-count-requires
 short-count-requires c κs = search needs
@@ -46,7 +46,7 @@ short-places-requires c κs =
     let k = c .before .before .before .before .shape-of .result in
     let long = c .before .before .before .long-count .ensures in
     let short = c .before .short-count .ensures in
-    (omega arith, omega (arith, long, short, few-factors (g .mpeg1) k), omega (arith, short, c .short-from .ensures, places (g .mpeg1) k))
+    (omega arith, omega (arith, long, short, few-factors (g .mpeg1) k), omega (arith, short, c .short-from .ensures, room (g .mpeg1) k))
 
 flat-requires : tie.Need-flat-requires
 flat-requires c κs = search needs

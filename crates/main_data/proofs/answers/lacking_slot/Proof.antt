@@ -7,7 +7,6 @@ use Rattle.main_data.proofs.answers.lacking_slot.Reads as reads
 use Rattle.main_data.proofs.answers.lacking_slot.Lts as lts
 
 returns : tie.Need-returns
-unfolding lackingSlot
 returns c = refl
 
 pub lacking-slot-spec : {M : Type 1} → statement M
