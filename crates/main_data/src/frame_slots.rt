@@ -74,8 +74,8 @@ pub(crate) fn slots_from(
     let mut k = 0usize;
     while k < n {
         let r = i.slots[k];
-        let g = setting_of(h, i, k, r);
         let m = mate_of(answers, k, channels);
+        let g = setting_of(h, i, k, r);
         let old = m.old;
         let from = SLOT_NUMBERS * k;
         let end = from + SLOT_NUMBERS;

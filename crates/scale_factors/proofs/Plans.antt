@@ -6,22 +6,22 @@ use mathlib.Core.List.{List, _∷_, _++_}
 use Prim.Native.Nat.{ℕ, zero, suc, _+_, _-_, _<_, _≤_}
 use native.Mathlib.Nat.{sub-zero, zero-sub, zero-add}
 use native.Mathlib.Omega.{arith}
-use lib.ListN.{length, getD, take, drop, replicate, length-replicate, length-drop}
-use lib.Seq.{take-all, length-take-le, take-append-le, drop-append-le, take-at, sets-eq}
+use lib.ListN.{length, getD, take, drop, replicate, length-append, length-replicate, length-take, length-drop}
+use lib.Seq.{sets, take-all, length-take-le, take-append-le, drop-append-le, take-at, sets-eq}
 use Rattle.lent_bytes.specs.Put.{Put}
 use Rattle.lent_bytes.specs.PutLaws.{put-whole}
 use Rattle.standard.specs.ToldLaws.{never}
 use Rattle.standard.specs.Record.{shapeOf}
 use Rattle.standard.specs.Bits.{bits}
-use Rattle.standard.specs.Factors.{planBy, planOf, group, groupsFrom, sourcesOf, planBits, longCount, shortCount, shortFrom, longFactors, shortFactors, bandsOf, factorCount}
-use Rattle.standard.specs.FactorsLaws.{few-factors, plan-bits-append, plan-length, lengths-small, shape-unshares, plan-factors-length, short-length, room}
+use Rattle.standard.specs.Factors.{planBy, planOf, group, groupsFrom, sourcesOf, mayShare, planBits, factorsFrom, longCount, shortCount, shortFrom, longFactors, shortFactors, bandsOf, factorCount}
+use Rattle.standard.specs.FactorsLaws.{few-factors, plan-bits-append, plan-length, lengths-small, shape-unshares, shape-unshared, plan-factors-length, short-length, room}
 use Rattle.standard.specs.declared.Setting.{Setting}
 use Rattle.standard.specs.declared.SlotRecord.{SlotRecord}
 use Rattle.standard.specs.declared.Plan.{Plan}
 use Rattle.standard.specs.declared.Shape.{Shape}
 use Rattle.standard.specs.declared.Shape.the-variants.{AllLong, AllShort}
 use Rattle.scale_factors.specs.Flat.{flatOf, flat-bands}
-use Rattle.scale_factors.specs.Groups.{Fit, filled, factorsAt}
+use Rattle.scale_factors.specs.Groups.{Fit, filled, factorsAt, oldFor}
 
 pub four-bits : (p : Plan) → planBits (group p 0) + planBits (group p 1) + planBits (group p 2) + planBits (group p 3) ≡ planBits (sourcesOf p)
 unfolding groupsFrom planBits
@@ -83,21 +83,32 @@ module _ (mpeg1 : Bool) (k : Shape) (l more : List ℕ) (e : length l ≡ factor
   unfolding longFactors
   long-taken = ap (λ (x : List ℕ). x ++ zeros (22 - longCount mpeg1 k)) (take-append-le (longCount mpeg1 k) l more (omega arith))
 
-  short-taken :
-      flatOf (bandsOf 13 (zeros (shortFrom k) ++ take (shortCount k) (drop (longCount mpeg1 k) (l ++ more)) ++ zeros (39 - (shortFrom k + shortCount k))))
-      ≡ shortFactors mpeg1 k l
+  short-taken : zeros (shortFrom k) ++ take (shortCount k) (drop (longCount mpeg1 k) (l ++ more)) ++ zeros (39 - (shortFrom k + shortCount k)) ≡ shortFactors mpeg1 k l
   unfolding shortFactors
   short-taken =
       let n = longCount mpeg1 k in
       let c = shortCount k in
       let left : length (drop n l) ≡ c = omega (arith, length-drop n l) in
-      ap (λ (x : List ℕ). flatOf (bandsOf 13 (zeros (shortFrom k) ++ x ++ zeros (39 - (shortFrom k + c)))))
+      ap (λ (x : List ℕ). zeros (shortFrom k) ++ x ++ zeros (39 - (shortFrom k + c)))
       (ap (take c) (drop-append-le n l more (omega arith)) ∙ take-at (drop n l) more c left)
-      ∙ flat-bands (shortFactors mpeg1 k l) (short-length mpeg1 k l e)
+
+-- laid out in thirteen bands, 39 factors are the same one after the other
+pub bands-back : (fs : List ℕ) (n c from : ℕ) → length fs ≡ 36 → n + c ≤ 36 → from + c ≤ 36
+    → flatOf (bandsOf 13 (zeros from ++ take (n + c - n) (drop n fs) ++ zeros (39 - (from + (n + c - n))))) ≡ zeros from ++ take c (drop n fs) ++ zeros (39 - (from + c))
+bands-back fs n c from l h k =
+    let d : n + c - n ≡ c = omega arith in
+    (λ j. flatOf (bandsOf 13 (zeros from ++ take (d j) (drop n fs) ++ zeros (39 - (from + d j)))))
+    ∙ flat-bands (zeros from ++ take c (drop n fs) ++ zeros (39 - (from + c))) (simp (length-append, length-replicate, length-take, length-drop) (omega arith))
+
+-- what may not share does not go by granule 0
+old-for : (g : Setting) (r : SlotRecord) (old : List ℕ) (b : List Bool) (k : Shape) → k ≡ shapeOf r
+    → factorsFrom (sourcesOf (planOf g r)) (oldFor k old) b ≡ factorsFrom (sourcesOf (planOf g r)) old b
+old-for g r old b AllLong e = refl
+old-for g r old b AllShort e = shape-unshared g r (ap mayShare (sym e)) (zeros 22) old b
 
 -- a plan's factors written over zeros are the factors, and then zeros
-module _ (g : Setting) (r : SlotRecord) (old s : List ℕ) (at : ℕ) (p : Plan) (fs : List ℕ)
-    (own : p ≡ planOf g r) (read : fs ≡ filled (zeros 36) 0 (sourcesOf p) old s at) where
+module _ (g : Setting) (r : SlotRecord) (old s : List ℕ) (at : ℕ) (p : Plan) (fs : List ℕ) (k : Shape) (shape : k ≡ shapeOf r)
+    (own : p ≡ planOf g r) (read : fs ≡ filled (zeros 36) 0 (sourcesOf p) (oldFor k old) s at) where
   count : length (factorsAt g r old s at) ≡ factorCount (g .mpeg1) (shapeOf r)
   count = plan-factors-length g r old (bits s at (planBits (sourcesOf (planOf g r))))
 
@@ -108,10 +119,11 @@ module _ (g : Setting) (r : SlotRecord) (old s : List ℕ) (at : ℕ) (p : Plan)
   unfolding filled more
   factors-first =
       read
-      ∙ ap (λ (q : Plan). filled (zeros 36) 0 (sourcesOf q) old s at) own
+      ∙ ap (λ (q : Plan). filled (zeros 36) 0 (sourcesOf q) (oldFor k old) s at) own
+      ∙ ap (sets (zeros 36) 0) (old-for g r old (bits s at (planBits (sourcesOf (planOf g r)))) k shape)
       ∙ sets-eq (factorsAt g r old s at) (zeros 36) 0 (omega (arith, count, few-factors (g .mpeg1) (shapeOf r)))
 
-  module _ (k : Shape) (n : ℕ) (shape : k ≡ shapeOf r) (long : n ≡ longCount (g .mpeg1) k) where
+  module _ (n : ℕ) (long : n ≡ longCount (g .mpeg1) k) where
     long-many : n ≡ longCount (g .mpeg1) (shapeOf r)
     long-many = long ∙ ap (longCount (g .mpeg1)) shape
 
@@ -120,12 +132,8 @@ module _ (g : Setting) (r : SlotRecord) (old s : List ℕ) (at : ℕ) (p : Plan)
         (λ j. take (long-many j) (factors-first j) ++ zeros (22 - long-many j))
         ∙ long-taken (g .mpeg1) (shapeOf r) (factorsAt g r old s at) more count
 
-    pub short-read : (c from : ℕ) (a : List (List ℕ)) → c ≡ shortCount k → from ≡ shortFrom k
-        → a ≡ bandsOf 13 (zeros from ++ take (n + c - n) (drop n fs) ++ zeros (39 - (from + (n + c - n))))
-        → flatOf a ≡ shortFactors (g .mpeg1) (shapeOf r) (factorsAt g r old s at)
-    short-read c from a short first e =
-        let d : n + c - n ≡ shortCount (shapeOf r) = omega (arith, short ∙ ap shortCount shape) in
-        let f : from ≡ shortFrom (shapeOf r) = first ∙ ap shortFrom shape in
-        ap flatOf e
-        ∙ (λ j. flatOf (bandsOf 13 (zeros (f j) ++ take (d j) (drop (long-many j) (factors-first j)) ++ zeros (39 - (f j + d j)))))
+    pub short-read : zeros (shortFrom k) ++ take (shortCount k) (drop n fs) ++ zeros (39 - (shortFrom k + shortCount k))
+        ≡ shortFactors (g .mpeg1) (shapeOf r) (factorsAt g r old s at)
+    short-read =
+        (λ j. zeros (shortFrom (shape j)) ++ take (shortCount (shape j)) (drop (long-many j) (factors-first j)) ++ zeros (39 - (shortFrom (shape j) + shortCount (shape j))))
         ∙ short-taken (g .mpeg1) (shapeOf r) (factorsAt g r old s at) more count

@@ -3,18 +3,25 @@ use mathlib.Core.Path.{_≡_}
 use mathlib.Core.Bool.{Bool, true, false}
 use mathlib.Core.List.{List}
 use Prim.Native.Nat.{ℕ, _+_, _<_, _≤_}
-use lib.ListN.{length, getD, drop}
+use lib.ListN.{length, getD, drop, replicate}
 use lib.Seq.{sets}
 use Rattle.standard.specs.Told.{pick}
 use Rattle.standard.specs.Bits.{bits}
 use Rattle.standard.specs.Factors.{Source, shared, coded, planOf, sourcesOf, planBits, factorsFrom}
 use Rattle.standard.specs.declared.Setting.{Setting}
 use Rattle.standard.specs.declared.SlotRecord.{SlotRecord}
+use Rattle.standard.specs.declared.Shape.{Shape}
+use Rattle.standard.specs.declared.Shape.the-variants.{AllLong, AllShort}
 use Rattle.standard.specs.declared.Plan.{Plan}
 
 -- the factors of a slot whose bits start at a place of s, granule 0's being `old`
 abbrev pub factorsAt : Setting → SlotRecord → List ℕ → List ℕ → ℕ → List ℕ
 factorsAt g r old s at = factorsFrom (sourcesOf (planOf g r)) old (bits s at (planBits (sourcesOf (planOf g r))))
+
+-- granule 0's factors, for a slot that may share them
+abbrev pub oldFor : Shape → List ℕ → List ℕ
+oldFor AllLong old = old
+oldFor AllShort old = replicate 22 0
 
 -- where each factor of a group comes from
 abbrev pub sourceOf : Bool → ℕ → Source

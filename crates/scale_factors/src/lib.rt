@@ -176,19 +176,34 @@ fn short_places(fs: [u8; 36], n: usize, end: usize, from: usize) -> [[u8; 3]; 13
     bands(short)
 }
 
-// The factors of a slot that starts at a bit place, `old` being the long ones of its channel in granule 0.
+// The short factors at their places. Long bands have none: the thirteen bands are not gone through for them.
+fn short_factors(shape: Shape, fs: [u8; 36], n: usize) -> [u8; 39]
+    requires { ⌜ n + shortCount shape ≤ 36 ⌝ }
+    ensures { λ r. ⌜ r ≡ replicate (shortFrom shape) 0 ++ take (shortCount shape) (drop n fs) ++ replicate (39 - (shortFrom shape + shortCount shape)) 0 ⌝ }
+{
+    match shape {
+        Shape::AllLong => [0u8; 39],
+        Shape::AllShort => flat(short_places(fs, n, n + short_count(shape), short_from(shape))),
+    }
+}
+
+// The factors of a slot that starts at a bit place, `old` being the long ones of its channel in granule 0. Short bands share nothing and
+// are read without these: two calls, which the compiler keeps out of the loops over a slot's numbers (docs/PERFORMANCE.md).
 pub fn read_scale_factors(g: Setting, r: SlotRecord, old: [u8; 22], s: &[u8], at: u32) -> Factors
     ensures { λ f. ⌜ (f .bits ≡ planBits (sourcesOf (planOf g r)))
         × (f .long ≡ longFactors (g .mpeg1) (shapeOf r) (factorsAt g r old (now (s .entry)) at))
         × (f .short ≡ shortFactors (g .mpeg1) (shapeOf r) (factorsAt g r old (now (s .entry)) at)) ⌝ }
 {
     let plan = plan_of(g, r);
-    let fs = read_plan(plan, old, s, at as usize);
     let block = r.block_type;
     let shape = shape_of(block);
+    let fs = match shape {
+        Shape::AllLong => read_plan(plan, old, s, at as usize),
+        Shape::AllShort => read_plan(plan, [0u8; 22], s, at as usize),
+    };
     let n = long_count(g.mpeg1, shape);
     let long = long_places(fs, n);
-    let short = flat(short_places(fs, n, n + short_count(shape), short_from(shape)));
+    let short = short_factors(shape, fs, n);
     Factors {
         bits: plan_bits(plan),
         long,

@@ -233,6 +233,10 @@ shape-unshares true intensity shares AllLong c e = never (sym e)
 shape-unshares true intensity shares AllShort c e = none-shared 4
 shape-unshares false intensity shares k c e = none-shared 4
 
+pub shape-unshared : (g : Setting) (r : SlotRecord) → mayShare (shapeOf r) ≡ false → Unshared (sourcesOf (planOf g r))
+unfolding planOf
+shape-unshared g r e = groups-unshared (planOf g r) (shape-unshares (g .mpeg1) (g .intensity) (g .shares) (shapeOf r) (r .«scalefac_compress») e) 0 4
+
 pub none-unshares : (mpeg1 intensity : Bool) (shares : List Bool) (k : Shape) (c : ℕ) → ((g : ℕ) → getD shares g false ≡ false) → (g : ℕ) → getD (planBy mpeg1 intensity shares k c .shares) g false ≡ false
 unfolding planBy
 none-unshares true intensity shares AllLong c h = h

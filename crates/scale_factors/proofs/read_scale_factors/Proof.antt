@@ -1,25 +1,55 @@
 -- `scale_factors::read_scale_factors` meets its contract: the plan's factors are read over zeros, so that their first ones are the long
 -- factors and the ones after these the short, three to a band; laid out flat the bands are the list again. Assumes nothing.
-use mathlib.Core.Path.{ap, _∙_}
+use mathlib.Core.Path.{_≡_, sym, ap, _∙_}
+use mathlib.Core.Logic.{⊎-elim}
 use native.Mathlib.Omega.{arith}
+use denote.Ref.{now}
+use lib.ListN.{replicate}
 use borrow.Author.Needs.{needs}
 use Rattle.standard.specs.Factors.{sourcesOf, planBits}
 use Rattle.standard.specs.FactorsLaws.{few-factors, plan-small, room}
 use Rattle.standard.specs.declared.Plan.{Plan}
+use Rattle.standard.specs.declared.Shape.{Shape}
+use Rattle.scale_factors.specs.Groups.{filled, oldFor}
 use Rattle.scale_factors.proofs.Plans.{plan-fit, long-read, short-read}
 use Rattle.scale_factors.proofs.read_scale_factors.Statement.{statement}
 use Rattle.scale_factors.proofs.read_scale_factors.Tie as tie
 
+-- whichever way the plan was read: short bands go by no factors of granule 0
+read : (c : tie.At-match-came)
+    → c .match .fs
+    ≡ filled (replicate 36 0) 0 (sourcesOf (c .before .before .plan-of .result))
+    (oldFor (c .before .shape-of .result) (c .before .before .before .before .args .old)) (now (c .before .before .before .before .args .s))
+    (c .before .before .before .before .args .at)
+read c =
+    let p = c .before .before .plan-of .result in
+    let a = c .before .before .before .before .args in
+    ⊎-elim
+    (λ w. w .3 ∙ w .2 .ensures ∙ ap (λ (k : Shape). filled (replicate 36 0) 0 (sourcesOf p) (oldFor k (a .old)) (now (a .s)) (a .at)) (sym (w .1 .given .1)))
+    (λ w. w .3 ∙ w .2 .ensures ∙ ap (λ (k : Shape). filled (replicate 36 0) 0 (sourcesOf p) (oldFor k (a .old)) (now (a .s)) (a .at)) (sym (w .1 .given .1)))
+    (c .match .came)
+
 plan-of-requires : tie.Need-plan-of-requires
 plan-of-requires c κs = search needs
 
-read-plan-requires : tie.Need-read-plan-requires
-read-plan-requires c κs =
-    let start = c .before .before in
-    plan-fit (start .args .g) (start .args .r) (c .plan-of .ensures) (start .args .at) (omega (arith, start .fits .at))
-
 shape-of-requires : tie.Need-shape-of-requires
 shape-of-requires c κs = search needs
+
+enum-told : tie.Need-enum-told
+enum-told c = search needs
+
+read-plan-requires : tie.Need-read-plan-requires
+read-plan-requires c κs =
+    let start = c .before .before .before .before .before in
+    plan-fit (start .args .g) (start .args .r) (c .before .before .before .plan-of .ensures) (start .args .at) (omega (arith, start .fits .at))
+
+enum-told-2 : tie.Need-enum-told-2
+enum-told-2 c = search needs
+
+read-plan-requires-2 : tie.Need-read-plan-requires-2
+read-plan-requires-2 c κs =
+    let start = c .before .before .before .before .before in
+    plan-fit (start .args .g) (start .args .r) (c .before .before .before .plan-of .ensures) (start .args .at) (omega (arith, start .fits .at))
 
 long-count-requires : tie.Need-long-count-requires
 long-count-requires c κs = search needs
@@ -27,50 +57,32 @@ long-count-requires c κs = search needs
 long-places-requires : tie.Need-long-places-requires
 long-places-requires c κs =
     let g = c .before .before .before .before .before .args .g in
-    omega (arith, c .long-count .ensures, room (g .mpeg1) (c .before .shape-of .result))
+    omega (arith, c .long-count .ensures, room (g .mpeg1) (c .before .before .shape-of .result))
 
-short-count-requires : tie.Need-short-count-requires
-short-count-requires c κs = search needs
-
-add-short-places : tie.Need-add-short-places
-add-short-places c =
-    let g = c .before .before .before .before .before .before .before .args .g in
-    omega (arith, c .before .before .long-count .ensures, c .short-count .ensures, few-factors (g .mpeg1) (c .before .before .before .shape-of .result))
-
-short-from-requires : tie.Need-short-from-requires
-short-from-requires c κs = search needs
-
-short-places-requires : tie.Need-short-places-requires
-short-places-requires c κs =
-    let g = c .before .before .before .before .before .before .before .before .args .g in
-    let k = c .before .before .before .before .shape-of .result in
-    let long = c .before .before .before .long-count .ensures in
-    let short = c .before .short-count .ensures in
-    (omega arith, omega (arith, long, short, few-factors (g .mpeg1) k), omega (arith, short, c .short-from .ensures, room (g .mpeg1) k))
-
-flat-requires : tie.Need-flat-requires
-flat-requires c κs = search needs
+short-factors-requires : tie.Need-short-factors-requires
+short-factors-requires c κs =
+    let counted = c .before in
+    let g = counted .before .before .before .before .before .args .g in
+    omega (arith, counted .long-count .ensures, few-factors (g .mpeg1) (counted .before .before .shape-of .result))
 
 plan-bits-requires : tie.Need-plan-bits-requires
 plan-bits-requires c κs =
-    let made = c .before .before .before .before .before .before .before .before in
+    let made = c .before .before .before .before .before in
     let a = made .before .before .args in
     omega (arith, ap (λ (p : Plan). planBits (sourcesOf p)) (made .plan-of .ensures), plan-small (a .g) (a .r))
 
 returns : tie.Need-returns
 returns c =
-    let counted = c .before .before .before .before .before .before in
-    let read = counted .before .before .read-plan .ensures in
-    let shape = counted .before .shape-of .ensures in
+    let counted = c .before .before .before in
+    let fs = read (counted .before) in
+    let shape = counted .before .before .shape-of .ensures in
     let long = counted .long-count .ensures in
-    let short = c .before .before .before .before .short-count .ensures in
-    let from = c .before .before .before .short-from .ensures in
     let made = counted .before .before .before in
     let own = made .plan-of .ensures in
     let a = made .before .before .args in (
       c .plan-bits .ensures ∙ ap (λ (p : Plan). planBits (sourcesOf p)) own,
-      c .before .before .before .before .before .long-places .ensures ∙ long-read (a .g) (a .r) _ _ _ _ _ own read _ _ shape long,
-      c .before .flat .ensures ∙ short-read (a .g) (a .r) _ _ _ _ _ own read _ _ shape long _ _ _ short from (c .before .before .short-places .ensures),
+      c .before .before .long-places .ensures ∙ long-read (a .g) (a .r) _ _ _ _ _ _ shape own fs _ long,
+      c .before .short-factors .ensures ∙ short-read (a .g) (a .r) _ _ _ _ _ _ shape own fs _ long,
     )
 
 pub read-scale-factors-spec : {M : Type 1} → statement M
@@ -78,14 +90,13 @@ read-scale-factors-spec =
     tie.close
     (tie.spec
     plan-of-requires
-    read-plan-requires
     shape-of-requires
+    enum-told
+    read-plan-requires
+    enum-told-2
+    read-plan-requires-2
     long-count-requires
     long-places-requires
-    short-count-requires
-    add-short-places
-    short-from-requires
-    short-places-requires
-    flat-requires
+    short-factors-requires
     plan-bits-requires
     returns)

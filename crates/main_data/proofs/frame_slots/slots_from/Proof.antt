@@ -53,11 +53,14 @@ mul-r c = omega (arith, four-at-most (c .before .before .before .before .before 
 element-copy-out-r : tie.Need-element-copy-out-r Inv-loop μ-loop
 element-copy-out-r c = omega (arith, four-at-most (c .before .before .before .before .before .before .before .args .h))
 
-setting-of-requires : tie.Need-setting-of-requires Inv-loop μ-loop
-setting-of-requires c κs = omega (arith, c .before .before .loop .inv .0)
-
 mate-of-requires : tie.Need-mate-of-requires Inv-loop μ-loop
-mate-of-requires c κs = (omega (arith, c .before .before .before .loop .inv .0, four-at-most (c .before .before .before .before .before .before .before .before .before .args .h)), omega (arith, c .before .before .before .loop .inv .1, some-channels (c .before .before .before .before .before .before .before .before .before .args .h)))
+mate-of-requires c κs =
+    let o = c .before .before in
+    let h = o .before .before .before .before .before .before .args .h in
+    (omega (arith, o .loop .inv .0, four-at-most h), omega (arith, o .loop .inv .1, some-channels h))
+
+setting-of-requires : tie.Need-setting-of-requires Inv-loop μ-loop
+setting-of-requires c κs = omega (arith, c .before .before .before .loop .inv .0)
 
 mul-from : tie.Need-mul-from Inv-loop μ-loop
 mul-from c = omega (arith, c .before .before .before .before .before .loop .inv .0, four-at-most (c .before .before .before .before .before .before .before .before .before .before .before .args .h))
@@ -123,7 +126,7 @@ loop-again c =
       o .inv .0,
       o .inv .1,
       omega arith,
-      turning-part _ _ _ _ _ _ _ _ (o .inv .3) (c .before .before .before .before .before .before .before .before .before .before .before .before .before .before .before .pre .2) _ _ _ _ _ _ (omega (arith, o .inv .0)) q (c .before .before .before .before .before .before .setting-of .ensures) (rw (o .inv .1) at (c .before .before .before .before .before .mate-of .ensures)) (c .before .before .read-slot .ensures),
+      turning-part _ _ _ _ _ _ _ _ (o .inv .3) (c .before .before .before .before .before .before .before .before .before .before .before .before .before .before .before .pre .2) _ _ _ _ _ _ (omega (arith, o .inv .0)) q (c .before .before .before .before .before .setting-of .ensures) (rw (o .inv .1) at (c .before .before .before .before .before .before .mate-of .ensures)) (c .before .before .read-slot .ensures),
     )
 
 same-length : tie.Need-same-length Inv-loop μ-loop
@@ -145,8 +148,8 @@ slots-from-spec =
     loop-holds
     mul-r
     element-copy-out-r
-    setting-of-requires
     mate-of-requires
+    setting-of-requires
     mul-from
     add-end
     mul-read-slot
