@@ -73,7 +73,8 @@ outcome-modest (holds long short vs) k d s e =
     record { at-most = omega (arith, s .count, m); magnitudes = each-small _ (take-small 576 (padded vs) (padded-small vs (s .sizes))) }
 
 -- of any outcomes that are small
-slot-modest : (os : List Outcome) {answers : List SlotAnswer} {d left : List ℤ} → Answered os answers d left → ((n : ℕ) → Small (getD os n (stopped MissingBits)))
+slot-modest : (os : List Outcome) {answers : List SlotAnswer} {d left : List ℤ} → Answered os answers d left
+    → ((n : ℕ) → Small (getD os n (stopped MissingBits)))
     → (n k : ℕ) → slotSaid answers n .outcome ≡ Read k → Modest k (partOf (576 * n) left)
 slot-modest os a s n k e =
     let b = by-said os a n e (λ z. clash cc) in
@@ -86,7 +87,8 @@ slots-modest c = slot-modest (outcomesOf c) (slots-answered c) (each-slot Small 
 pub entire-known : {s : List ℕ} {h : FrameHeader} {i : SideInfo} → Bytes s → Entire s h i → (isHeader h ≡ true) × (isSide h i ≡ true)
 entire-known {s} {h} {i} b w = let k = header-known s h b (w .header) in (k, side-known h i s k (w .info))
 
-pub frame-modest : (c : FrameStep) → Bytes (frame c) → (n k : ℕ) → slotSaid (c .answer .slots) n .outcome ≡ Read k → Modest k (partOf (576 * n) (numbersAfter c))
+pub frame-modest : (c : FrameStep) → Bytes (frame c) → (n k : ℕ) → slotSaid (c .answer .slots) n .outcome ≡ Read k
+    → Modest k (partOf (576 * n) (numbersAfter c))
 frame-modest c b = slot-modest (stepOf c .slots) (frame-answered c) (each-of-frame Small tt c (λ m h i bs w. slot-small h i (entire-known b w .1) bs m))
 
 -- ---- slot lengths: where the n-th slot ends, n counted from 1
@@ -109,7 +111,8 @@ pub main-modest : (c : MainSizeCall) → isHeader (c .args .0) ≡ true → (1 �
 main-modest c known = (rw (c .promised) (main-size-from (c .args .0) known), rw (c .promised) (main-size-le (c .args .0) known))
 
 -- ---- the reservoir: a frame leaves its length as it was, or makes it at most 1,931
-way-reservoir : {s old lent left : List ℕ} {before : Reservoir} {d nums : List ℤ} {p : Step} {r : FrameAnswer} → Bytes s → FrameRead lent before d p r left nums → Way s old p
+way-reservoir : {s old lent left : List ℕ} {before : Reservoir} {d nums : List ℤ} {p : Step} {r : FrameAnswer} → Bytes s
+    → FrameRead lent before d p r left nums → Way s old p
     → (r .reservoir ≡ before) ⊎ (r .reservoir .length ≤ 1931)
 unfolding noStep shortStep fullStep reservoirAfter
 way-reservoir {before = before} b f (refusedWay k m e) = inl (f .reservoir ∙ ap (λ (x : Step). reservoirAfter before (x .kept)) e)

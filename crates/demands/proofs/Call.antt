@@ -26,7 +26,8 @@ OneState {n} ps r P state =
     → (x ≡ y) × (state κs s ≡ state κs t)
 
 -- the same of what a call shows, where that is not the whole answer: of a reference that is answered, what stands behind it
-abbrev pub OneShown : {n : ℕ} (ps : List (PK n)) (r : RK n) → Out n ps r → {S : Type 0} → ((κs : Lfts n) → resT r κs .Denot → AtExit (endedOf n ps r) κs → S) → Type 0
+abbrev pub OneShown : {n : ℕ} (ps : List (PK n)) (r : RK n) → Out n ps r → {S : Type 0} → ((κs : Lfts n) → resT r κs .Denot → AtExit (endedOf n ps r) κs → S)
+    → Type 0
 OneShown {n} ps r P shown =
     (κs : Lfts n) (a : Dens κs ps) (x y : resT r κs .Denot) (s t : AtExit (endedOf n ps r) κs) → P κs a x s → P κs a y t → shown κs x s ≡ shown κs y t
 

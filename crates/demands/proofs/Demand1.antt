@@ -35,8 +35,12 @@ use Rattle.standard.specs.declared.Refusal.{Refusal}
 module _ {s old lent left : List ℕ} {before : Reservoir} {d nums : List ℤ} {p : Step} {r : FrameAnswer} (f : FrameRead lent before d p r left nums) where
   way-refused : Way s old p → (k : Refusal) → r .verdict ≡ Refused k → (k ≡ ShortReservoir → ⊥) → (left ≡ lent) × (r .reservoir ≡ before) × (nums ≡ d)
   unfolding noStep shortStep fullStep bytesKept reservoirAfter numbersFrom
-  way-refused (refusedWay j n e) k v m =
-      (f .bytes ∙ ap (λ (x : Step). bytesKept lent (x .kept)) e, f .reservoir ∙ ap (λ (x : Step). reservoirAfter before (x .kept)) e, f .numbers-are ∙ ap (λ (x : Step). numbersFrom 0 (x .slots) d) e)
+  way-refused (refusedWay j n e) k v m = (
+    f .bytes ∙ ap (λ (x : Step). bytesKept lent (x .kept)) e,
+    f .reservoir ∙ ap (λ (x : Step). reservoirAfter before (x .kept)) e,
+    f .numbers-are
+        ∙ ap (λ (x : Step). numbersFrom 0 (x .slots) d) e,
+  )
   way-refused (shortWay h i w l e) k v m = absurd (m (why-is (sym v ∙ f .verdict ∙ ap (λ (x : Step). x .verdict) e)))
   way-refused (fullWay h i w l e) k v m = unlike (sym v ∙ f .verdict ∙ ap (λ (x : Step). x .verdict) e)
 
@@ -67,7 +71,8 @@ module _ (c : FrameStep) where
   short-frame v = way-short (c .promised) (way-of c) v
 
   -- a refused slot of a frame leaves its 576 numbers, and so does one that the frame lacks
-  pub refused-slot : (n : ℕ) (k : Refusal) → slotSaid (c .answer .slots) n .outcome ≡ NotRead k → partOf (576 * n) (numbersAfter c) ≡ partOf (576 * n) (numbers c)
+  pub refused-slot : (n : ℕ) (k : Refusal) → slotSaid (c .answer .slots) n .outcome ≡ NotRead k
+      → partOf (576 * n) (numbersAfter c) ≡ partOf (576 * n) (numbers c)
   refused-slot = refused-stays (stepOf c .slots) (frame-answered c)
 
   pub lacking-slot : (n : ℕ) → slotSaid (c .answer .slots) n .outcome ≡ Lacking → partOf (576 * n) (numbersAfter c) ≡ partOf (576 * n) (numbers c)
@@ -86,7 +91,8 @@ module _ (c : SlotsCall) where
   pub refused-slots : (k : Refusal) → c .answer .verdict ≡ Refused k → slotsNumbersAfter c ≡ slotsNumbers c
   refused-slots k v = slots-unread (c .promised) k v
 
-  pub refused-one : (n : ℕ) (k : Refusal) → slotSaid (c .answer .slots) n .outcome ≡ NotRead k → partOf (576 * n) (slotsNumbersAfter c) ≡ partOf (576 * n) (slotsNumbers c)
+  pub refused-one : (n : ℕ) (k : Refusal) → slotSaid (c .answer .slots) n .outcome ≡ NotRead k
+      → partOf (576 * n) (slotsNumbersAfter c) ≡ partOf (576 * n) (slotsNumbers c)
   refused-one = refused-stays (outcomesOf c) (slots-answered c)
 
   pub lacking-one : (n : ℕ) → slotSaid (c .answer .slots) n .outcome ≡ Lacking → partOf (576 * n) (slotsNumbersAfter c) ≡ partOf (576 * n) (slotsNumbers c)

@@ -44,7 +44,8 @@ slots-are c = c .promised
 
 -- 11172-3, 2.4.1.1 to 2.4.1.7, and 2.4.2.7 (main_data_begin): a frame from bytes and reservoir; refusals 1 to 13
 pub frame-is : (c : FrameStep)
-    → FrameRead (bytes c) (reservoir c) (numbers c) (frameCall (frame c) (bytes c) (reservoir c .length) (length (numbers c))) (c .answer) (bytesAfter c) (numbersAfter c)
+    → FrameRead (bytes c) (reservoir c) (numbers c) (frameCall (frame c) (bytes c) (reservoir c .length) (length (numbers c))) (c .answer) (bytesAfter c)
+    (numbersAfter c)
 frame-is c = c .promised
 
 -- document 01: the call for a gap on the card
@@ -68,7 +69,8 @@ exported-frame-is c = c .promised
 pub exported-slots-are : (c : Call front-end-slots-kinds.ps front-end-slots-kinds.r front-end-slots.Post)
     → let nums = now (c .args .1 .1 .0) in
     let rows = now (c .args .1 .1 .1 .0) in
-    SlotsDone nums rows (slotsStep (now (c .args .0)) (now (c .args .1 .0)) (length nums) (length rows)) (c .answer) (now (c .exit .1 .1 .0)) (now (c .exit .1 .1 .1 .0))
+    SlotsDone nums rows (slotsStep (now (c .args .0)) (now (c .args .1 .0)) (length nums) (length rows)) (c .answer) (now (c .exit .1 .1 .0))
+    (now (c .exit .1 .1 .1 .0))
 exported-slots-are c = c .promised
 
 pub exported-emptied-is : (c : Call front-end-emptied-kinds.ps front-end-emptied-kinds.r front-end-emptied.Post) → c .answer ≡ emptied .length

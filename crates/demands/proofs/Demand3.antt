@@ -64,7 +64,8 @@ module _ (h : FrameHeader) (i : SideInfo) where
 
   -- ---- bytes after
   module _ (xs ys : List ℕ) {d left gone : List ℤ} {early late : List SlotAnswer}
-      (f : Answered (slotsOf h i xs) early d left) (g : Answered (slotsOf h i (xs ++ ys)) late d gone) (n : ℕ) (found : slotSaid early n .outcome ≡ NotRead MissingBits → ⊥) where
+      (f : Answered (slotsOf h i xs) early d left) (g : Answered (slotsOf h i (xs ++ ys)) late d gone) (n : ℕ)
+      (found : slotSaid early n .outcome ≡ NotRead MissingBits → ⊥) where
     outcomes : n < length (records h i) → outcomeOf h i (xs ++ ys) n ≡ outcomeOf h i xs n
     outcomes l = same-outcome h i xs ys n (λ e. found (ap (λ (t : SlotAnswer). t .outcome) (own-said xs f n l) ∙ says-missing (outcomeOf h i xs n) e))
 
@@ -82,7 +83,8 @@ module _ (h : FrameHeader) (i : SideInfo) where
         ]
 
 -- ---- over the promise
-module _ (c : SlotsCall) (enough : 2304 ≤ length (slotsNumbers c)) (header : isHeader (slotsHeader c) ≡ true) (info : isSide (slotsHeader c) (slotsInfo c) ≡ true) where
+module _ (c : SlotsCall) (enough : 2304 ≤ length (slotsNumbers c)) (header : isHeader (slotsHeader c) ≡ true)
+    (info : isSide (slotsHeader c) (slotsInfo c) ≡ true) where
   call-told : toldOr [] (readSlots (slotsHeader c) (slotsInfo c) (mainData c) (length (slotsNumbers c))) ≡ slotsOf (slotsHeader c) (slotsInfo c) (mainData c)
   unfolding toldOr
   call-told = ap (toldOr []) (read-call (slotsHeader c) (slotsInfo c) (mainData c) (length (slotsNumbers c)) enough header info)
@@ -107,8 +109,10 @@ module _ (c : SlotsCall) (enough : 2304 ≤ length (slotsNumbers c)) (header : i
 -- two calls: from xs, and from xs with ys after it
 module _ (early late : SlotsCall) (ys : List ℕ) (same-header : slotsHeader late ≡ slotsHeader early) (same-info : slotsInfo late ≡ slotsInfo early)
     (more : mainData late ≡ mainData early ++ ys) (same-numbers : slotsNumbers late ≡ slotsNumbers early)
-    (enough : 2304 ≤ length (slotsNumbers early)) (header : isHeader (slotsHeader early) ≡ true) (info : isSide (slotsHeader early) (slotsInfo early) ≡ true) where
-  late-follows : Answered (slotsOf (slotsHeader early) (slotsInfo early) (mainData early ++ ys)) (late .answer .slots) (slotsNumbers early) (slotsNumbersAfter late)
+    (enough : 2304 ≤ length (slotsNumbers early)) (header : isHeader (slotsHeader early) ≡ true)
+    (info : isSide (slotsHeader early) (slotsInfo early) ≡ true) where
+  late-follows : Answered (slotsOf (slotsHeader early) (slotsInfo early) (mainData early ++ ys)) (late .answer .slots) (slotsNumbers early)
+      (slotsNumbersAfter late)
   late-follows =
       let f = follows late (rw same-numbers enough) (ap isHeader same-header ∙ header) ((λ j. isSide (same-header j) (same-info j)) ∙ info) in
       record {
@@ -124,10 +128,16 @@ module _ (early late : SlotsCall) (ys : List ℕ) (same-header : slotsHeader lat
   only-20-changes n found = stays (slotsHeader early) (slotsInfo early) (mainData early) ys (follows early enough header info) late-follows n found
 
   -- and any other answer is the definition's from the whole
-  pub whole-answer : (n : ℕ) → n < length (records (slotsHeader early) (slotsInfo early)) → (slotSaid (early .answer .slots) n .outcome ≡ NotRead MissingBits → ⊥)
+  pub whole-answer : (n : ℕ) → n < length (records (slotsHeader early) (slotsInfo early))
+      → (slotSaid (early .answer .slots) n .outcome ≡ NotRead MissingBits → ⊥)
       → (slotSaid (early .answer .slots) n ≡ slotTold (outcomeOf (slotsHeader early) (slotsInfo early) (mainData early ++ ys) n))
-      × (partOf (576 * n) (slotsNumbersAfter early) ≡ ownOf (outcomeOf (slotsHeader early) (slotsInfo early) (mainData early ++ ys) n) (partOf (576 * n) (slotsNumbers early)))
+      × (partOf (576 * n) (slotsNumbersAfter early)
+      ≡ ownOf (outcomeOf (slotsHeader early) (slotsInfo early) (mainData early ++ ys) n) (partOf (576 * n) (slotsNumbers early)))
   whole-answer n l found =
       let f = follows early enough header info in
-      let e = sym (outcomes (slotsHeader early) (slotsInfo early) (mainData early) ys f late-follows n found l) in
-      (own-said (slotsHeader early) (slotsInfo early) (mainData early) f n l ∙ ap slotTold e, own-stored (slotsHeader early) (slotsInfo early) (mainData early) f n l ∙ ap (λ (o : Outcome). ownOf o (partOf (576 * n) (slotsNumbers early))) e)
+      let e = sym (outcomes (slotsHeader early) (slotsInfo early) (mainData early) ys f late-follows n found l) in (
+        own-said (slotsHeader early) (slotsInfo early) (mainData early) f n l
+            ∙ ap slotTold e,
+        own-stored (slotsHeader early) (slotsInfo early) (mainData early) f n l
+            ∙ ap (λ (o : Outcome). ownOf o (partOf (576 * n) (slotsNumbers early))) e,
+      )

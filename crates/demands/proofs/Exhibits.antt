@@ -134,7 +134,8 @@ from-said main n = ap (λ (t : Told (List Outcome)). slotSaid (fourOf (toldOr []
 
 -- with the premises of Demand 3 on header, side information and numbers: from nothing the slot is missing, from a byte it is not
 pub slot-missing : (c : SlotsCall) × (2304 ≤ length (slotsNumbers c)) × (isHeader (slotsHeader c) ≡ true) × (isSide (slotsHeader c) (slotsInfo c) ≡ true)
-    × (0 < length (records (slotsHeader c) (slotsInfo c))) × (slotSaid (c .answer .slots) 0 .outcome ≡ NotRead MissingBits) × (slotSaid (c .answer .slots) 1 .outcome ≡ Lacking)
+    × (0 < length (records (slotsHeader c) (slotsInfo c))) × (slotSaid (c .answer .slots) 0 .outcome ≡ NotRead MissingBits)
+    × (slotSaid (c .answer .slots) 1 .outcome ≡ Lacking)
 unfolding from-main slotsCall step slotsBy answersOf answerOf
 slot-missing =
     let one : length (records header info) ≡ 1 = refl in (
@@ -147,7 +148,8 @@ slot-missing =
       ap (λ (t : SlotAnswer). t .outcome) (from-said [] 1),
     )
 
-pub early-and-late : (early late : SlotsCall) × (slotsHeader late ≡ slotsHeader early) × (slotsInfo late ≡ slotsInfo early) × (mainData late ≡ mainData early ++ 0x00 ∷ [])
+pub early-and-late : (early late : SlotsCall) × (slotsHeader late ≡ slotsHeader early) × (slotsInfo late ≡ slotsInfo early)
+    × (mainData late ≡ mainData early ++ 0x00 ∷ [])
     × (slotsNumbers late ≡ slotsNumbers early) × (2304 ≤ length (slotsNumbers early)) × (isHeader (slotsHeader early) ≡ true)
     × (isSide (slotsHeader early) (slotsInfo early) ≡ true) × (slotSaid (early .answer .slots) 0 .outcome ≡ Read 6)
 unfolding from-main slotsCall step slotsBy answersOf answerOf
@@ -192,7 +194,8 @@ turn-refused = (turnCall [] none 0 [] (Refused UnfitMemory) (sym (ap turnVerdict
 
 -- ---- OnlyValid: F's call twice, over memory that differs past the reservoir's bytes
 pub two-memories : (frame (f 1) ≡ frame (f 0)) × (reservoir (f 1) ≡ reservoir (f 0)) × (numbers (f 1) ≡ numbers (f 0))
-    × (take (reservoir (f 0) .length) (bytes (f 1)) ≡ take (reservoir (f 0) .length) (bytes (f 0))) × (ltb (length (bytes (f 1))) 4096 ≡ ltb (length (bytes (f 0))) 4096)
+    × (take (reservoir (f 0) .length) (bytes (f 1)) ≡ take (reservoir (f 0) .length) (bytes (f 0)))
+    × (ltb (length (bytes (f 1))) 4096 ≡ ltb (length (bytes (f 0))) 4096)
 unfolding f a-frame frameStep
 two-memories = (refl, refl, refl, refl, ap (λ (n : ℕ). ltb n 4096) (length-replicate {A = ℕ} 4096 1 ∙ sym (length-replicate {A = ℕ} 4096 0)))
 
@@ -207,7 +210,14 @@ pub record-checked : (c : IsRecordCall) × (isHeader (c .args .0) ≡ true) × (
 unfolding step
 record-checked =
     let r = getD (info .slots) 0 absent in (
-      record { lifetimes = tt; args = (header, (r, tt)); answer = true; exit = (header, (r, tt)); promised = sym (slot-record header info (known .1) 0 (omega arith)) },
+      record {
+        lifetimes = tt;
+        args = (header, (r, tt));
+        answer = true;
+        exit = (header, (r, tt));
+        promised = sym
+            (slot-record header info (known .1) 0 (omega arith));
+      },
       known .0,
       refl,
     )
@@ -218,7 +228,8 @@ pub lent : (s : List ℕ) (x : ℕ) (v : Verdict) (e : v ≡ frameOf s [] .verdi
 unfolding a-frame frameStep
 lent s x v e = record { frame-is = refl; old-is = refl; bytes-enough = bytes-enough x; stated-fits = omega arith; numbers-enough = numbers-enough }
 
-pub handed-on : (main : List ℕ) → (slotsHeader (from-main main) ≡ f 0 .answer .header) × (slotsInfo (from-main main) ≡ f 0 .answer .info) × (mainData (from-main main) ≡ main)
+pub handed-on : (main : List ℕ) → (slotsHeader (from-main main) ≡ f 0 .answer .header) × (slotsInfo (from-main main) ≡ f 0 .answer .info)
+    × (mainData (from-main main) ≡ main)
 unfolding from-main slotsCall f a-frame frameStep
 handed-on main = (ap (λ (p : Step). p .header) (sym (comes-to frameF 0)), ap (λ (p : Step). p .info) (sym (comes-to frameF 0)), refl)
 
@@ -256,7 +267,8 @@ pub short-reordered : (c : ReorderCall) × (isHeader (reorderHeader c) ≡ true)
     × (take 576 (reorderNumbers c) ≡ firstTwelve ++ replicate 564 (pos 0))
 unfolding reorderCall header44 shortRecord verdictOf
 short-reordered = (
-  reorderCall header44 shortRecord before Accepted (sym (ap verdictOf (reorder-laws.in-order header44 shortRecord before (omega arith) header44-known short-known))),
+  reorderCall header44 shortRecord before Accepted
+      (sym (ap verdictOf (reorder-laws.in-order header44 shortRecord before (omega arith) header44-known short-known))),
   header44-known,
   refl,
   short-known,
@@ -291,7 +303,8 @@ looking =
       promised = refl;
     }
 
-pub looked : (t : TreesCall) × (lookupTrees looking ≡ t .answer) × In (entry 0 (true ∷ [])) (published (lookupTable looking)) × (starts (true ∷ []) (lookupBits looking) ≡ true)
+pub looked : (t : TreesCall) × (lookupTrees looking ≡ t .answer) × In (entry 0 (true ∷ [])) (published (lookupTable looking))
+    × (starts (true ∷ []) (lookupBits looking) ≡ true)
 unfolding published codes table1 pair lowBits starts step
 looked = (record { lifetimes = tt; args = tt; answer = trees; exit = tt; promised = refl }, refl, here, refl)
 
@@ -303,7 +316,13 @@ exported s lent stated d rows =
       lifetimes = ([], ([], ([], ([], tt))));
       args = (lend s, (lend lent, (stated, (lend d, (lend rows, tt)))));
       answer = frameTold stated p;
-      exit = (lend s, (lend (bytesAfter lent (p .kept)), (stated, (lend (numbersFrom 0 (p .slots) d), (lend (rowsAfter (p .verdict) (slotsTold (p .slots)) rows), tt)))));
+      exit = (
+        lend s,
+        (
+          lend (bytesAfter lent (p .kept)),
+          (stated, (lend (numbersFrom 0 (p .slots) d), (lend (rowsAfter (p .verdict) (slotsTold (p .slots)) rows), tt))),
+        ),
+      );
       promised = record { answer = refl; bytes = refl; numbers-are = refl; rows-are = refl };
     }
 

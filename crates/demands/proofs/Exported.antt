@@ -37,9 +37,12 @@ ExportedFrame = Call front-end-frame-kinds.ps front-end-frame-kinds.r front-end-
 
 step-way : (s lent : List ℕ) (stated d room : ℕ) → Way s (take stated lent) (frameStep s lent stated d room)
 unfolding frameStep
-step-way s lent stated d room = either-way (Way s (take stated lent)) (ltb room 252) _ _ (λ e. refusedWay UnfitMemory (λ z. let n : _≡_ {A = ℕ} 1 13 = ap numberOf z in omega arith) refl) (λ e. call-way s lent stated d)
+step-way s lent stated d room =
+    either-way (Way s (take stated lent)) (ltb room 252) _ _ (λ e. refusedWay UnfitMemory (λ z. let n : _≡_ {A = ℕ} 1 13 = ap numberOf z in omega arith) refl)
+    (λ e. call-way s lent stated d)
 
-module _ {lent left rows now-rows : List ℕ} {stated : ℕ} {d nums : List ℤ} {p : Step} {r : FrameTold} (f : FrameDone lent stated d rows p r left nums now-rows) where
+module _ {lent left rows now-rows : List ℕ} {stated : ℕ} {d nums : List ℤ} {p : Step} {r : FrameTold}
+    (f : FrameDone lent stated d rows p r left nums now-rows) where
   number : (k : ℕ) → r .refusal ≡ k → frameTold stated p .refusal ≡ k
   number k e = sym (ap (λ (x : FrameTold). x .refusal) (f .answer)) ∙ e
 
@@ -104,16 +107,19 @@ ExportedSlots = Call front-end-slots-kinds.ps front-end-slots-kinds.r front-end-
 abbrev pub ExportedReorder : Type 0
 ExportedReorder = Call front-end-reorder-kinds.ps front-end-reorder-kinds.r front-end-reorder.Post
 
-slots-refused : {d nums : List ℤ} {rows now-rows : List ℕ} {t : Told (List Outcome)} {r : ℕ} → SlotsDone d rows t r nums now-rows → (r ≡ 0 → ⊥) → (nums ≡ d) × (now-rows ≡ rows)
+slots-refused : {d nums : List ℤ} {rows now-rows : List ℕ} {t : Told (List Outcome)} {r : ℕ} → SlotsDone d rows t r nums now-rows → (r ≡ 0 → ⊥) → (nums ≡ d)
+    × (now-rows ≡ rows)
 unfolding verdictOf toldOr numbersFrom rowsAfter
 slots-refused {d} {nums} {rows} {now-rows} {t} {r} f m = go t (f .answer) (f .numbers-are) (f .rows-are)
   where
-    go : (t : Told (List Outcome)) → r ≡ numberTold (verdictOf t) → nums ≡ numbersFrom 0 (toldOr [] t) d → now-rows ≡ rowsAfter (verdictOf t) (slotsTold (toldOr [] t)) rows
+    go : (t : Told (List Outcome)) → r ≡ numberTold (verdictOf t) → nums ≡ numbersFrom 0 (toldOr [] t) d
+        → now-rows ≡ rowsAfter (verdictOf t) (slotsTold (toldOr [] t)) rows
         → (nums ≡ d) × (now-rows ≡ rows)
     go (refused j) e n w = (n, w)
     go (told os) e n w = absurd (m e)
 
-pub refused-slots : (c : ExportedSlots) → (c .answer ≡ 0 → ⊥) → (now (c .exit .1 .1 .0) ≡ now (c .args .1 .1 .0)) × (now (c .exit .1 .1 .1 .0) ≡ now (c .args .1 .1 .1 .0))
+pub refused-slots : (c : ExportedSlots) → (c .answer ≡ 0 → ⊥) → (now (c .exit .1 .1 .0) ≡ now (c .args .1 .1 .0))
+    × (now (c .exit .1 .1 .1 .0) ≡ now (c .args .1 .1 .1 .0))
 refused-slots c = slots-refused (c .promised)
 
 reorder-refused : {d nums : List ℤ} {t : Told (List ℤ)} {r : ℕ} → ReorderDone d t r nums → (r ≡ 0 → ⊥) → nums ≡ d

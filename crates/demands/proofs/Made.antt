@@ -83,7 +83,8 @@ frameStep s lent old d v e =
     record {
       lifetimes = ([], ([], ([], tt)));
       args = (lend s, (lend lent, (old, (lend d, tt))));
-      answer = record { verdict = v; header = p .header; info = p .info; length = p .length; slots = fourOf (p .slots); reservoir = reservoirAfter old (p .kept) };
+      answer =
+          record { verdict = v; header = p .header; info = p .info; length = p .length; slots = fourOf (p .slots); reservoir = reservoirAfter old (p .kept) };
       exit = (lend s, (lend (bytesAfter lent (p .kept)), (old, (lend (numbersFrom 0 (p .slots) d), tt))));
       promised =
           record {

@@ -85,7 +85,8 @@ side-accepted c known =
 
 pub record-accepted : (c : IsRecordCall) → isHeader (c .args .0) ≡ true
     → (c .answer ≡ true)
-    ↔ ((s : List ℕ) × (i : SideInfo) × (n : ℕ) × Bytes s × (n < granules (c .args .0) * channelCount (c .args .0)) × ReadsHeader s (c .args .0) × ReadsSide s (c .args .0) i
+    ↔ ((s : List ℕ) × (i : SideInfo) × (n : ℕ) × Bytes s × (n < granules (c .args .0) * channelCount (c .args .0)) × ReadsHeader s (c .args .0)
+    × ReadsSide s (c .args .0) i
     × (getD (i .slots) n absent ≡ c .args .1 .0))
 record-accepted c known =
     let both = slot-read (c .args .0) (c .args .1 .0) known in (

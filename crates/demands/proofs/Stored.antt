@@ -62,11 +62,14 @@ module _ (os : List Outcome) {answers : List SlotAnswer} {d left : List ℤ} (a 
       let k = 576 * n - 576 * length os in
       let e : 576 * length os + k ≡ 576 * n = omega arith in
       ap (λ (m : ℕ). take 576 (drop m left)) (sym e)
-      ∙ ap (take 576) (sym (drop-drop k (576 * length os) left) ∙ ap (drop k) (ap (drop (576 * length os)) (a .stored) ∙ past-slots os d (a .room)) ∙ drop-drop k (576 * length os) d)
+      ∙ ap (take 576)
+      (sym (drop-drop k (576 * length os) left) ∙ ap (drop k) (ap (drop (576 * length os)) (a .stored) ∙ past-slots os d (a .room))
+      ∙ drop-drop k (576 * length os) d)
       ∙ ap (λ (m : ℕ). take 576 (drop m d)) e
 
   -- what is said decides: lacking, or by the slot's own outcome
-  pub by-said : (n : ℕ) {x : SlotOutcome} → slotSaid answers n .outcome ≡ x → (x ≡ Lacking → ⊥) → (n < length os) × (slotTold (getD os n (stopped MissingBits)) .outcome ≡ x)
+  pub by-said : (n : ℕ) {x : SlotOutcome} → slotSaid answers n .outcome ≡ x → (x ≡ Lacking → ⊥) → (n < length os)
+      × (slotTold (getD os n (stopped MissingBits)) .outcome ≡ x)
   by-said n e f =
       elim (decLt n (length os)) [
         | yes l ↦ (l, sym (ap (λ (t : SlotAnswer). t .outcome) (said-is n l)) ∙ e)
@@ -106,14 +109,16 @@ read-each P h i s d n none some =
       | no l ↦ at (few-numbers h i s d (omega arith)) none
     ]
   where
-    at : {t : Told (List Outcome)} → readSlots h i s d ≡ t → P (getD (toldOr [] t) n (stopped MissingBits)) → P (getD (toldOr [] (readSlots h i s d)) n (stopped MissingBits))
+    at : {t : Told (List Outcome)} → readSlots h i s d ≡ t → P (getD (toldOr [] t) n (stopped MissingBits))
+        → P (getD (toldOr [] (readSlots h i s d)) n (stopped MissingBits))
     at e x = subst (λ (t : Told (List Outcome)). P (getD (toldOr [] t) n (stopped MissingBits))) (sym e) x
 
     by : (b : Bool) → isHeader h && isSide h i ≡ b → 2304 ≤ d → P (getD (toldOr [] (readSlots h i s d)) n (stopped MissingBits))
     by true e l = let k = both-of (isHeader h) (isSide h i) e in at (read-call h i s d l (k .0) (k .1)) (some (k .1))
     by false e l = at (made-up-call h i s d l e) none
 
-pub each-slot : (P : Outcome → Type 0) → P (stopped MissingBits) → (c : SlotsCall) → ((n : ℕ) → isSide (slotsHeader c) (slotsInfo c) ≡ true → P (outcomeOf (slotsHeader c) (slotsInfo c) (mainData c) n))
+pub each-slot : (P : Outcome → Type 0) → P (stopped MissingBits) → (c : SlotsCall)
+    → ((n : ℕ) → isSide (slotsHeader c) (slotsInfo c) ≡ true → P (outcomeOf (slotsHeader c) (slotsInfo c) (mainData c) n))
     → (n : ℕ) → P (getD (outcomesOf c) n (stopped MissingBits))
 each-slot P none c some n = read-each P (slotsHeader c) (slotsInfo c) (mainData c) (length (slotsNumbers c)) n none (some n)
 
@@ -140,5 +145,6 @@ way-each P {s} {old} (fullWay h i w l e) n none some =
     subst (λ (p : Step). P (getD (p .slots) n (stopped MissingBits))) (sym e) (some h i (drop (length old - i .«main_data_begin») old ++ mainOf h s) w)
 
 pub each-of-frame : (P : Outcome → Type 0) → P (stopped MissingBits) → (c : FrameStep)
-    → ((n : ℕ) (h : FrameHeader) (i : SideInfo) (bs : List ℕ) → Entire (frame c) h i → P (outcomeOf h i bs n)) → (n : ℕ) → P (getD (stepOf c .slots) n (stopped MissingBits))
+    → ((n : ℕ) (h : FrameHeader) (i : SideInfo) (bs : List ℕ) → Entire (frame c) h i → P (outcomeOf h i bs n)) → (n : ℕ)
+    → P (getD (stepOf c .slots) n (stopped MissingBits))
 each-of-frame P none c some n = way-each P (way-of c) n none (some n)

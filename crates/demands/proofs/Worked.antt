@@ -45,11 +45,13 @@ Promised (ofFrame s old v os k) =
     → (c .answer .verdict ≡ v) × (c .answer .slots ≡ slotsTold os) × (numbersAfter c ≡ numbersFrom 0 os (numbers c))
     × (bytesAfter c ≡ bytesKept (bytes c) k) × (c .answer .reservoir ≡ reservoirAfter (reservoir c) k)
 Promised (ofMain s main os) =
-    (b : FrameStep) → Lent b s [] → Bytes s → b .answer .verdict ≡ Accepted → (c : SlotsCall) → slotsHeader c ≡ b .answer .header → slotsInfo c ≡ b .answer .info
+    (b : FrameStep) → Lent b s [] → Bytes s → b .answer .verdict ≡ Accepted → (c : SlotsCall) → slotsHeader c ≡ b .answer .header
+    → slotsInfo c ≡ b .answer .info
     → mainData c ≡ main → 2304 ≤ length (slotsNumbers c)
     → (c .answer .verdict ≡ Accepted) × (c .answer .slots ≡ slotsTold os) × (slotsNumbersAfter c ≡ numbersFrom 0 os (slotsNumbers c))
 Promised (ofOrder rate before after) =
-    (c : ReorderCall) → isHeader (reorderHeader c) ≡ true → reorderHeader c .rate ≡ rate → isRecord (isMpeg1 (reorderHeader c .version)) (reorderRecord c) ≡ true
+    (c : ReorderCall) → isHeader (reorderHeader c) ≡ true → reorderHeader c .rate ≡ rate
+    → isRecord (isMpeg1 (reorderHeader c .version)) (reorderRecord c) ≡ true
     → shapeOf (reorderRecord c) ≡ AllShort → 576 ≤ length (reorderNumbers c) → (rest : List ℤ) → take 576 (reorderNumbers c) ≡ before ++ rest
     → (c .answer ≡ Accepted) × (take (length after) (take 576 (reorderNumbersAfter c)) ≡ after)
 
@@ -71,7 +73,8 @@ frame-so s old v os k so c l =
     )
 
 -- ---- slots from other main data: header and side information of a frame that was accepted are such that bytes read to them
-pub way-known : {s old : List ℕ} {p : Step} → Bytes s → Way s old p → p .verdict ≡ Accepted → (isHeader (p .header) ≡ true) × (isSide (p .header) (p .info) ≡ true)
+pub way-known : {s old : List ℕ} {p : Step} → Bytes s → Way s old p → p .verdict ≡ Accepted → (isHeader (p .header) ≡ true)
+    × (isSide (p .header) (p .info) ≡ true)
 unfolding noStep shortStep fullStep
 way-known b (refusedWay k m e) v = unlike (sym (ap (λ (x : Step). x .verdict) e) ∙ v)
 way-known b (shortWay h i w l e) v = unlike (sym (ap (λ (x : Step). x .verdict) e) ∙ v)
@@ -104,7 +107,8 @@ order-so rate before after so c known same-rate fits short enough rest first =
     let g = gathered (orderOf (reorderHeader c .rate) 0) (take 576 d) in (
       c .promised .verdict ∙ ap verdictOf t,
       ap (λ (x : List ℤ). take (length after) (take 576 x)) (c .promised .value ∙ ap (toldOr d) t)
-          ∙ ap (take (length after)) (take-at g (drop 576 d) 576 (length-order (reorderHeader c .rate) (take 576 d)) ∙ (λ j. gathered (orderOf (same-rate j) 0) (first j)))
+          ∙ ap (take (length after))
+          (take-at g (drop 576 d) 576 (length-order (reorderHeader c .rate) (take 576 d)) ∙ (λ j. gathered (orderOf (same-rate j) 0) (first j)))
           ∙ so rest,
     )
 

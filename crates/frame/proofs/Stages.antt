@@ -44,7 +44,8 @@ main-length h s {a} {b} {m} k l p q e =
     length-take-le (a + b + m - (a + b)) (drop (a + b) s) (simp length-drop (omega (arith, l, p, q, e, parts h k))) ∙ omega (arith, e)
 
 -- so its turn is never refused for the memory
-pub fits-turn : (h : FrameHeader) (i : SideInfo) (main : List ℕ) {lent left : List ℕ} {old : Reservoir} {a : ReservoirAnswer} → 4096 ≤ length lent → old .length ≤ 4096
+pub fits-turn : (h : FrameHeader) (i : SideInfo) (main : List ℕ) {lent left : List ℕ} {old : Reservoir} {a : ReservoirAnswer} → 4096 ≤ length lent
+    → old .length ≤ 4096
     → isHeader h ≡ true → isSide h i ≡ true → length main ≡ mainSize h → Turned lent old (turnIn lent (old .length) (i .«main_data_begin») main) a left
     → Turned lent old (told (turnOf (i .«main_data_begin») (take (old .length) lent) main)) a left
 fits-turn h i main {lent} {left} {old} {a} l s k f m t =
@@ -57,6 +58,8 @@ pub whole-frame : {lent left : List ℕ} {old : Reservoir} {d nums : List ℤ} {
     → FrameRead lent old d (frameOf s (take (old .length) lent)) r left nums
 whole-frame {lent} {left} {old} {d} {nums} {r} {a} {b} {m} s h i e f l p q u t =
     let n : a + b + m - (a + b) ≡ mainSize h = omega (arith, u) in
-    let same : withTurn h i (turnOf (i .«main_data_begin») (take (old .length) lent) (take (a + b + m - (a + b)) (drop (a + b) s))) ≡ frameOf s (take (old .length) lent) =
-    (λ j. withTurn h i (turnOf (i .«main_data_begin») (take (old .length) lent) (take (n j) (drop (p j + q j) s)))) ∙ sym (frame-turn s (take (old .length) lent) e f l) in
+    let same : withTurn h i (turnOf (i .«main_data_begin») (take (old .length) lent) (take (a + b + m - (a + b)) (drop (a + b) s)))
+    ≡ frameOf s (take (old .length) lent) =
+    (λ j. withTurn h i (turnOf (i .«main_data_begin») (take (old .length) lent) (take (n j) (drop (p j + q j) s))))
+    ∙ sym (frame-turn s (take (old .length) lent) e f l) in
     subst (λ x. FrameRead lent old d x r left nums) same t

@@ -35,7 +35,8 @@ ghost use Rattle.frame.specs.Reasons.{reasonOf};
 
 // A refused frame tells nothing, and the reservoir stays.
 fn refused(reason: Refusal, reservoir: Reservoir) -> FrameAnswer
-    ensures { λ r. ⌜ (r .verdict ≡ Verdict.Refused reason) × (r .header ≡ noHeader) × (r .info ≡ noSide) × (r .length ≡ 0) × (r .slots ≡ slotsTold []) × (r .reservoir ≡ reservoir) ⌝ }
+    ensures { λ r. ⌜ (r .verdict ≡ Verdict.Refused reason) × (r .header ≡ noHeader) × (r .info ≡ noSide) × (r .length ≡ 0) × (r .slots ≡ slotsTold [])
+        × (r .reservoir ≡ reservoir) ⌝ }
 {
     let header = no_header();
     let a = no_side(reason);
@@ -70,8 +71,11 @@ fn with_main(
     reservoir: Reservoir,
     numbers: &mut [i32],
 ) -> FrameAnswer
-    requires { ⌜ (reservoirBytes ≤ length (now bytes)) × (reservoir .length ≤ reservoirBytes) × (perFrame ≤ length (now numbers)) × (isHeader h ≡ true) × (isSide h i ≡ true) × (length (now main) ≡ mainSize h) ⌝ }
-    ensures { λ r. ⌜ FrameRead (now (bytes .entry)) reservoir (now (numbers .entry)) (withTurn h i (turnOf (i .«main_data_begin») (take (reservoir .length) (now (bytes .entry))) (now (main .entry)))) r (now (bytes .exit)) (now (numbers .exit)) ⌝ }
+    requires { ⌜ (reservoirBytes ≤ length (now bytes)) × (reservoir .length ≤ reservoirBytes) × (perFrame ≤ length (now numbers)) × (isHeader h ≡ true)
+        × (isSide h i ≡ true) × (length (now main) ≡ mainSize h) ⌝ }
+    ensures { λ r. ⌜ FrameRead (now (bytes .entry)) reservoir (now (numbers .entry))
+        (withTurn h i (turnOf (i .«main_data_begin») (take (reservoir .length) (now (bytes .entry))) (now (main .entry)))) r (now (bytes .exit))
+        (now (numbers .exit)) ⌝ }
 {
     let length = frame_length(h);
     let a = turn(&mut *bytes, reservoir, i.main_data_begin, main);
@@ -108,8 +112,10 @@ fn with_header(
     reservoir: Reservoir,
     numbers: &mut [i32],
 ) -> FrameAnswer
-    requires { ⌜ (reservoirBytes ≤ length (now bytes)) × (reservoir .length ≤ reservoirBytes) × (perFrame ≤ length (now numbers)) × (headerOf (now frame) ≡ told h) ⌝ }
-    ensures { λ r. ⌜ FrameRead (now (bytes .entry)) reservoir (now (numbers .entry)) (frameOf (now (frame .entry)) (take (reservoir .length) (now (bytes .entry)))) r (now (bytes .exit)) (now (numbers .exit)) ⌝ }
+    requires { ⌜ (reservoirBytes ≤ length (now bytes)) × (reservoir .length ≤ reservoirBytes) × (perFrame ≤ length (now numbers))
+        × (headerOf (now frame) ≡ told h) ⌝ }
+    ensures { λ r. ⌜ FrameRead (now (bytes .entry)) reservoir (now (numbers .entry))
+        (frameOf (now (frame .entry)) (take (reservoir .length) (now (bytes .entry)))) r (now (bytes .exit)) (now (numbers .exit)) ⌝ }
 {
     let a = read_side_info(h, frame);
     let i = a.info;
@@ -133,7 +139,9 @@ pub fn process_frame(
     reservoir: Reservoir,
     numbers: &mut [i32],
 ) -> FrameAnswer
-    ensures { λ r. ⌜ FrameRead (now (bytes .entry)) reservoir (now (numbers .entry)) (frameCall (now (frame .entry)) (now (bytes .entry)) (reservoir .length) (length (now (numbers .entry)))) r (now (bytes .exit)) (now (numbers .exit)) ⌝ }
+    ensures { λ r. ⌜ FrameRead (now (bytes .entry)) reservoir (now (numbers .entry))
+        (frameCall (now (frame .entry)) (now (bytes .entry)) (reservoir .length) (length (now (numbers .entry)))) r (now (bytes .exit))
+        (now (numbers .exit)) ⌝ }
 {
     if bytes.len() < RESERVOIR_BYTES {
         return refused(Refusal::UnfitMemory, reservoir);

@@ -42,11 +42,13 @@ module _ (d : List ℕ) (at : ℕ) (t : SlotAnswer) (long : length (t .long) ≡
   unfolding slotRow
   row-two {x} {y} p q =
       let o : at ≡ at + 0 = omega arith in
-      copying-turn _ _ _ _ _ (copying-turn _ _ _ _ _ (copying-begin (slotRow t) d at) 0 at x o p (omega arith) (omega (arith, row-length))) 0 (at + 1) y refl q (omega arith) (omega (arith, row-length)) .same
+      copying-turn _ _ _ _ _ (copying-turn _ _ _ _ _ (copying-begin (slotRow t) d at) 0 at x o p (omega arith) (omega (arith, row-length))) 0
+      (at + 1) y refl q (omega arith) (omega (arith, row-length)) .same
 
   row-long : paste (paste d at (slotRow t) 2) (at + 2) (t .long) 22 ≡ paste d at (slotRow t) 24
   unfolding slotRow
-  row-long = paste-next (slotRow t) d (t .long) at 2 22 (omega arith) (omega (arith, row-length)) (sym (take-append-le 22 (t .long) (t .short) (omega (arith, long))))
+  row-long =
+      paste-next (slotRow t) d (t .long) at 2 22 (omega arith) (omega (arith, row-length)) (sym (take-append-le 22 (t .long) (t .short) (omega (arith, long))))
 
   row-short : paste (paste d at (slotRow t) 24) (at + 24) (t .short) 39 ≡ paste d at (slotRow t) 63
   unfolding slotRow
@@ -143,7 +145,8 @@ module _ (s : List ℕ) (n : ℕ) (d : List ℤ) where
   reorder-lacking h i l = passed _ (le-ltb n (granules h * channelCount h) l)
 
 -- the slots from given main data
-pub slots-refused : {d numbers : List ℤ} {rows left : List ℕ} {t : Told (List Outcome)} {r : ℕ} (why : Refusal) → t ≡ refused why → r ≡ numberOf why → numbers ≡ d → left ≡ rows
+pub slots-refused : {d numbers : List ℤ} {rows left : List ℕ} {t : Told (List Outcome)} {r : ℕ} (why : Refusal) → t ≡ refused why → r ≡ numberOf why
+    → numbers ≡ d → left ≡ rows
     → SlotsDone d rows t r numbers left
 unfolding verdictOf toldOr rowsAfter numbersFrom
 slots-refused {d} {rows = rows} why e n m l = record {
@@ -195,7 +198,8 @@ pub frame-done : {lent left rows told-rows : List ℕ} {stated : ℕ} {d numbers
     → FrameDone lent stated d rows q (record { refusal = n; length = a .length; reservoir = a .reservoir .length }) left numbers told-rows
 unfolding frameTold
 frame-done {lent} {left} {rows} {told-rows} {stated} {d} {numbers} {p} {q} {a} {n} e r w =
-    subst (λ (x : Step). FrameDone lent stated d rows x (record { refusal = n; length = a .length; reservoir = a .reservoir .length }) left numbers told-rows) (sym e)
+    subst (λ (x : Step). FrameDone lent stated d rows x (record { refusal = n; length = a .length; reservoir = a .reservoir .length }) left numbers told-rows)
+    (sym e)
     (record {
       answer = λ j. record { refusal = (w .0 ∙ ap numberTold (r .verdict)) j; length = r .length-is j; reservoir = r .reservoir j .length };
       bytes = r .bytes;

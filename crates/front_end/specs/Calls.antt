@@ -73,7 +73,8 @@ frameTold stated p =
     }
 
 -- what is answered of a frame, and what was lent after it: the reservoir's bytes, the numbers, the rows
-pub record FrameDone (lent : List ℕ) (stated : ℕ) (d : List ℤ) (rows : List ℕ) (p : Step) (r : FrameTold) (left : List ℕ) (numbers : List ℤ) (told-rows : List ℕ) : Type 0 where
+pub record FrameDone (lent : List ℕ) (stated : ℕ) (d : List ℤ) (rows : List ℕ) (p : Step) (r : FrameTold) (left : List ℕ) (numbers : List ℤ)
+    (told-rows : List ℕ) : Type 0 where
   pub answer : r ≡ frameTold stated p
   pub bytes : left ≡ bytesAfter lent (p .kept)
   pub numbers-are : numbers ≡ numbersFrom 0 (p .slots) d

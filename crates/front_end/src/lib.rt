@@ -70,7 +70,9 @@ pub extern "C" fn front_end_frame(
     numbers: &mut [i32],
     rows: &mut [u16],
 ) -> FrameTold
-    ensures { λ r. ⌜ FrameDone (now (bytes .entry)) reservoir (now (numbers .entry)) (now (rows .entry)) (frameStep (now (frame .entry)) (now (bytes .entry)) reservoir (length (now (numbers .entry))) (length (now (rows .entry)))) r (now (bytes .exit)) (now (numbers .exit)) (now (rows .exit)) ⌝ }
+    ensures { λ r. ⌜ FrameDone (now (bytes .entry)) reservoir (now (numbers .entry)) (now (rows .entry))
+        (frameStep (now (frame .entry)) (now (bytes .entry)) reservoir (length (now (numbers .entry))) (length (now (rows .entry)))) r (now (bytes .exit))
+        (now (numbers .exit)) (now (rows .exit)) ⌝ }
 {
     if rows.len() < ROWS {
         return FrameTold {
@@ -99,7 +101,9 @@ fn slots_under(
     rows: &mut [u16],
 ) -> u8
     requires { ⌜ (252 ≤ length (now rows)) × (perFrame ≤ length (now numbers)) × (headerOf (now frame) ≡ told h) ⌝ }
-    ensures { λ r. ⌜ SlotsDone (now (numbers .entry)) (now (rows .entry)) (slotsStep (now (frame .entry)) (now (main .entry)) (length (now (numbers .entry))) (length (now (rows .entry)))) r (now (numbers .exit)) (now (rows .exit)) ⌝ }
+    ensures { λ r. ⌜ SlotsDone (now (numbers .entry)) (now (rows .entry))
+        (slotsStep (now (frame .entry)) (now (main .entry)) (length (now (numbers .entry))) (length (now (rows .entry)))) r (now (numbers .exit))
+        (now (rows .exit)) ⌝ }
 {
     let a = read_side_info(h, frame);
     let i = a.info;
@@ -121,7 +125,9 @@ pub extern "C" fn front_end_slots(
     numbers: &mut [i32],
     rows: &mut [u16],
 ) -> u8
-    ensures { λ r. ⌜ SlotsDone (now (numbers .entry)) (now (rows .entry)) (slotsStep (now (frame .entry)) (now (main .entry)) (length (now (numbers .entry))) (length (now (rows .entry)))) r (now (numbers .exit)) (now (rows .exit)) ⌝ }
+    ensures { λ r. ⌜ SlotsDone (now (numbers .entry)) (now (rows .entry))
+        (slotsStep (now (frame .entry)) (now (main .entry)) (length (now (numbers .entry))) (length (now (rows .entry)))) r (now (numbers .exit))
+        (now (rows .exit)) ⌝ }
 {
     if (rows.len() < ROWS) | (numbers.len() < FRAME_NUMBERS) {
         return number_of(Refusal::UnfitMemory);

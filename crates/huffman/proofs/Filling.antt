@@ -79,7 +79,9 @@ pair-begin trees table n s start e out p l =
       place = p;
       fill = record {
         long = l;
-        same = ap (λ (m : ℕ). pairs (lookedUp trees) table 0 m (between s start e)) z ∙ sym (prepend-nil (pairs (lookedUp trees) table 0 (n - 0) (between s start e)));
+        same =
+            ap (λ (m : ℕ). pairs (lookedUp trees) table 0 m (between s start e)) z
+            ∙ sym (prepend-nil (pairs (lookedUp trees) table 0 (n - 0) (between s start e)));
         kept = refl;
       };
     }
@@ -116,7 +118,8 @@ module _ (q : Numbers) (trees : List ℕ) (table : ℕ → ℕ) (n : ℕ) (s : L
       place = omega (arith, pair-within s at e trees t (Two x y u) g, r .place);
       fill =
           rw (two-stores out i x y)
-          (filling-turn q (pairs (lookedUp trees) table k (n - k) (between s at e)) (pairs (lookedUp trees) table (k + 1) (n - (k + 1)) (between s (at + u) e)) out₀ out (x ∷ y ∷ []) i (i + 2) (r .fill)
+          (filling-turn q (pairs (lookedUp trees) table k (n - k) (between s at e))
+          (pairs (lookedUp trees) table (k + 1) (n - (k + 1)) (between s (at + u) e)) out₀ out (x ∷ y ∷ []) i (i + 2) (r .fill)
           (ap (λ (m : ℕ). pairs (lookedUp trees) table k m (between s at e)) one-more
           ∙ pairs-two (lookedUp trees) table k (n - (k + 1)) (between s at e) x y u (next-pair (Two x y u) g)
           ∙ (λ j. prepend (x ∷ y ∷ []) (pairs (lookedUp trees) table (sym (add-one k) j) (n - (k + 1)) (between-drop u s at e j))))
@@ -207,7 +210,8 @@ module _ (q : Numbers) (trees : List ℕ) (t from : ℕ) (s : List ℕ) (e : ℕ
       place = omega (arith, quad-within s at e trees t (Four v w x y u) g, r .place);
       fill =
           rw (four-stores out i v w x y)
-          (filling-turn q (quads (lookedUp trees) t ((576 - i) / 4) (between s at e)) (quads (lookedUp trees) t ((576 - (i + 4)) / 4) (between s (at + u) e)) out₀ out (v ∷ w ∷ x ∷ y ∷ []) i (i + 4) (r .fill)
+          (filling-turn q (quads (lookedUp trees) t ((576 - i) / 4) (between s at e))
+          (quads (lookedUp trees) t ((576 - (i + 4)) / 4) (between s (at + u) e)) out₀ out (v ∷ w ∷ x ∷ y ∷ []) i (i + 4) (r .fill)
           (one-quad ∙ quads-four (lookedUp trees) t ((576 - (i + 4)) / 4) (between s at e) left v w x y u g
           ∙ ap (λ (b : List Bool). prepend (v ∷ w ∷ x ∷ y ∷ []) (quads (lookedUp trees) t ((576 - (i + 4)) / 4) b)) (between-drop u s at e))
           refl (omega arith));

@@ -64,11 +64,13 @@ module _ (trees : List ℕ) (rate : SampleRate) (r : SlotRecord) (s : List ℕ) 
     -- what the whole is after its pairs
     module _ (first second n : ℕ) (out₁ : List ℤ) (x : Ended) (g : Split first second ≡ regionsOf rate r) (hn : n ≡ r .«big_values»)
         (p : PairsRead (pairs (lookedUp trees) (tableAt first second (r .«table_select»)) 0 n (between s at e)) n s e out₀ out₁ x) where
-      after-pairs : numbersOf (lookedUp trees) rate r (between s at e) ≡ thenRest (lookedUp trees) (quadTable (r .«count1table_select»)) n (pairsSaid x (take (2 * n) out₁) s e)
+      after-pairs : numbersOf (lookedUp trees) rate r (between s at e)
+          ≡ thenRest (lookedUp trees) (quadTable (r .«count1table_select»)) n (pairsSaid x (take (2 * n) out₁) s e)
       unfolding numbersBy
       after-pairs =
           numbers-some (lookedUp trees) rate r s at e h ∙ ap (λ (y : Regions). numbersBy (lookedUp trees) r y (between s at e)) (sym g)
-          ∙ ap (λ (m : ℕ). thenRest (lookedUp trees) (quadTable (r .«count1table_select»)) m (pairs (lookedUp trees) (tableAt first second (r .«table_select»)) 0 m (between s at e))) (sym hn)
+          ∙ ap (λ (m : ℕ). thenRest (lookedUp trees) (quadTable (r .«count1table_select»)) m
+          (pairs (lookedUp trees) (tableAt first second (r .«table_select»)) 0 m (between s at e))) (sym hn)
           ∙ ap (thenRest (lookedUp trees) (quadTable (r .«count1table_select»)) n) (p .same)
 
       pub pairs-halted : (why : Refusal) → x ≡ Halted why → NumbersRead (numbersOf (lookedUp trees) rate r (between s at e)) 0 out₀ out₁ (Uncounted why)
@@ -85,7 +87,8 @@ module _ (trees : List ℕ) (rate : SampleRate) (r : SlotRecord) (s : List ℕ) 
       quads-read place t out a d ht f = record {
         long = f .long;
         says =
-            says-on (numbersOf (lookedUp trees) rate r (between s at e)) (prepend (take (2 * n) out₁) (quads (lookedUp trees) t ((576 - 2 * n) / 4) (between s place e))) (2 * n) out₀ out₁ out
+            says-on (numbersOf (lookedUp trees) rate r (between s at e))
+            (prepend (take (2 * n) out₁) (quads (lookedUp trees) t ((576 - 2 * n) / 4) (between s place e))) (2 * n) out₀ out₁ out
             (after-pairs ∙ (λ j. thenRest (lookedUp trees) (sym ht j) n (pairsSaid (d j) (take (2 * n) out₁) s e)))
             (p .kept) a (f .says);
       }

@@ -18,7 +18,8 @@ put-none old at =
     record { next = omega arith; bytes = paste-zero old at [] ∙ ap (paste old at []) (sym z) }
 
 -- where there is room, all of it is put
-pub put-whole : {old : List ℕ} {at : ℕ} {t : List ℕ} {r : ℕ} {left : List ℕ} → Put old at t r left → at + length t ≤ length old → left ≡ paste old at t (length t)
+pub put-whole : {old : List ℕ} {at : ℕ} {t : List ℕ} {r : ℕ} {left : List ℕ} → Put old at t r left → at + length t ≤ length old
+    → left ≡ paste old at t (length t)
 unfolding roomFor
 put-whole {old} {at} {t} p h = let e : roomFor old at t ≡ length t = omega arith in p .bytes ∙ ap (paste old at t) e
 

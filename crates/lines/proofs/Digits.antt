@@ -25,7 +25,9 @@ begin n digits l h = record {
   high = omega arith;
   long = l;
   small = omega arith;
-  same = let k : length digits ≤ 20 = omega arith in sym (ap (λ (x : List ℕ). digitsOf 20 n ++ x) (drop-of-length-le digits {i = 20} k) ∙ append-nil (digitsOf 20 n));
+  same =
+      let k : length digits ≤ 20 = omega arith in sym
+      (ap (λ (x : List ℕ). digitsOf 20 n ++ x) (drop-of-length-le digits {i = 20} k) ∙ append-nil (digitsOf 20 n));
 }
 
 -- what stands from a place on, once a byte is stored there
@@ -59,7 +61,8 @@ module _ (n : ℕ) (d : List ℕ) (j rest : ℕ) (r : Spelling n d (suc j) rest)
   unfolding digitsOf pick
   the-last g =
       stored d j (48 + rest) (omega (arith, r .long, r .high))
-      ∙ sym (r .same ∙ ap (λ (b : Bool). pick b ((48 + rest) ∷ []) (digitsOf j (rest / 10) ++ ((48 + rest % 10) ∷ [])) ++ drop (suc j) d) (lt-ltb rest 10 (omega arith)))
+      ∙ sym (r .same
+      ∙ ap (λ (b : Bool). pick b ((48 + rest) ∷ []) (digitsOf j (rest / 10) ++ ((48 + rest % 10) ∷ [])) ++ drop (suc j) d) (lt-ltb rest 10 (omega arith)))
 
 -- one place before i
 before : (i : ℕ) → 0 < i → suc (i - 1) ≡ i

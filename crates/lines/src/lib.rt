@@ -38,7 +38,8 @@ fn put_two(
     m: u64,
     after: &[u8],
 ) -> usize
-    ensures { λ r. ⌜ Put (now (out .entry)) at (now (before .entry) ++ decimalOf n ++ now (between .entry) ++ decimalOf m ++ now (after .entry)) r (now (out .exit)) ⌝ }
+    ensures { λ r. ⌜ Put (now (out .entry)) at (now (before .entry) ++ decimalOf n ++ now (between .entry) ++ decimalOf m ++ now (after .entry)) r
+        (now (out .exit)) ⌝ }
 {
     let a = put_one(&mut *out, at, before, n, between);
     let b = put_number(&mut *out, a, m);
@@ -159,7 +160,8 @@ pub fn put_slots(
     fourth: SlotAnswer,
     numbers: &[i32],
 ) -> usize
-    ensures { λ r. ⌜ Put (now (out .entry)) at (slotsText two (first .outcome) (second .outcome) (third .outcome) (fourth .outcome) (now (numbers .entry))) r (now (out .exit)) ⌝ }
+    ensures { λ r. ⌜ Put (now (out .entry)) at (slotsText two (first .outcome) (second .outcome) (third .outcome) (fourth .outcome) (now (numbers .entry))) r
+        (now (out .exit)) ⌝ }
 {
     let a = put_slot(&mut *out, at, two, 0, first, numbers);
     let b = put_slot(&mut *out, a, two, 1, second, numbers);

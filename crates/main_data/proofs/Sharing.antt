@@ -52,7 +52,8 @@ four-from l k h =
     ∙ ap (λ (t : List Bool). getD l (k + 2) false ∷ t) (one-more l (k + 3) 0 (omega arith)))))
 
 -- the two cases of the definition
-module _ (h : FrameHeader) (i : SideInfo) (n : ℕ) (r : SlotRecord) (c : ℕ) (e : c ≡ channelCount h) (y : Bool) (f : y ≡ ltb n c || not (mayShare (shapeOf r))) where
+module _ (h : FrameHeader) (i : SideInfo) (n : ℕ) (r : SlotRecord) (c : ℕ) (e : c ≡ channelCount h) (y : Bool)
+    (f : y ≡ ltb n c || not (mayShare (shapeOf r))) where
   test : ltb n (channelCount h) || not (mayShare (shapeOf r)) ≡ y
   test = ap (λ (k : ℕ). ltb n k || not (mayShare (shapeOf r))) (sym e) ∙ sym f
 
@@ -61,7 +62,8 @@ module _ (h : FrameHeader) (i : SideInfo) (n : ℕ) (r : SlotRecord) (c : ℕ) (
   shares-none t = sym (picked _ (test ∙ t))
 
   pub shares-some : y ≡ false → n < granules h * channelCount h → length (i .scfsi) ≡ 8
-      → getD (i .scfsi) (4 * (n - c)) false ∷ getD (i .scfsi) (4 * (n - c) + 1) false ∷ getD (i .scfsi) (4 * (n - c) + 2) false ∷ getD (i .scfsi) (4 * (n - c) + 3) false ∷ []
+      → getD (i .scfsi) (4 * (n - c)) false ∷ getD (i .scfsi) (4 * (n - c) + 1) false ∷ getD (i .scfsi) (4 * (n - c) + 2) false ∷ getD (i .scfsi)
+      (4 * (n - c) + 3) false ∷ []
       ≡ sharesOf h i n r
   unfolding sharesOf
   shares-some t k l =

@@ -52,13 +52,15 @@ module _ (g : Setting) (r : SlotRecord) where
 
       pub slot-numbers : anyOf (g .shares) && lost ≡ false
           → slotOf g r lost old (bits s at (r .«part2_3_length»))
-          ≡ withFactors (g .mpeg1) (shapeOf r) (factorsAt g r old s at) (numbersOf wordOf (g .rate) r (between s (at + planBits plan) (at + r .«part2_3_length»)))
+          ≡ withFactors (g .mpeg1) (shapeOf r) (factorsAt g r old s at)
+          (numbersOf wordOf (g .rate) r (between s (at + planBits plan) (at + r .«part2_3_length»)))
       unfolding slotOf slotBy between
       slot-numbers e =
           let k : r .«part2_3_length» - planBits plan ≡ at + r .«part2_3_length» - (at + planBits plan) = omega arith in
           passed _ (le-ltb _ _ h)
           ∙ passed _ e
-          ∙ (λ j. withFactors (g .mpeg1) (shapeOf r) (factors-bits plan old s at (r .«part2_3_length») h j) (numbersOf wordOf (g .rate) r ((drop-bits (planBits plan) s at (r .«part2_3_length») ∙ ap (bits s (at + planBits plan)) k) j)))
+          ∙ (λ j. withFactors (g .mpeg1) (shapeOf r) (factors-bits plan old s at (r .«part2_3_length») h j)
+          (numbersOf wordOf (g .rate) r ((drop-bits (planBits plan) s at (r .«part2_3_length») ∙ ap (bits s (at + planBits plan)) k) j)))
 
 -- ---- the answers
 pub stopped-read : {o : Outcome} {d left : List ℤ} {a : SlotAnswer} {why : Refusal} → o ≡ stopped why → a ≡ slotTold (stopped why) → left ≡ d
@@ -86,7 +88,8 @@ module _ (mpeg1 : Bool) (k : Shape) (fs : List ℕ) (d left : List ℤ) (a : Slo
       }
 
 -- the reader's outcome over the real trees, where the slot fits
-pub huffman-numbers : (links : List ℕ) (rate : SampleRate) (r : SlotRecord) (b : List Bool) (d : List ℤ) → links ≡ trees → length d ≡ 576 → r .«big_values» ≤ 288
+pub huffman-numbers : (links : List ℕ) (rate : SampleRate) (r : SlotRecord) (b : List Bool) (d : List ℤ) → links ≡ trees → length d ≡ 576
+    → r .«big_values» ≤ 288
     → slotNumbers (lookedUp links) rate r b d ≡ numbersOf wordOf rate r b
 huffman-numbers links rate r b d e l p =
     slot-fits (lookedUp links) rate r b d (omega arith) p

@@ -66,7 +66,8 @@ told-turn answers done k a o l h t e =
     let n : 4 - k ≡ suc (4 - (k + 1)) = omega arith in
     (λ j. set ((t ∙ ap (λ (m : ℕ). map slotTold done ++ replicate m lackingSlot) n) j) k (e j))
     ∙ set-at (map slotTold done) lackingSlot (replicate (4 - (k + 1)) lackingSlot) (slotTold o) k (length-map done slotTold ∙ l)
-    ∙ sym (ap (λ (x : List SlotAnswer). x ++ replicate (4 - (k + 1)) lackingSlot) (map-append slotTold done (o ∷ [])) ∙ append-assoc (map slotTold done) (slotTold o ∷ []) (replicate (4 - (k + 1)) lackingSlot))
+    ∙ sym (ap (λ (x : List SlotAnswer). x ++ replicate (4 - (k + 1)) lackingSlot) (map-append slotTold done (o ∷ []))
+    ∙ append-assoc (map slotTold done) (slotTold o ∷ []) (replicate (4 - (k + 1)) lackingSlot))
 
 -- ---- the slot of the same channel in granule 0, as its answer tells it
 said-stopped : (o : Outcome) → saidRefused (slotTold o .outcome) ≡ isStopped o
@@ -97,7 +98,8 @@ some-channels h = by (isTwo (h .channels))
     by true = omega arith
     by false = omega arith
 
-mate-told : (h : FrameHeader) (answers : List SlotAnswer) (done : List Outcome) (k : ℕ) → length done ≡ k → answers ≡ map slotTold done ++ replicate (4 - k) lackingSlot
+mate-told : (h : FrameHeader) (answers : List SlotAnswer) (done : List Outcome) (k : ℕ) → length done ≡ k
+    → answers ≡ map slotTold done ++ replicate (4 - k) lackingSlot
     → mateIn (channelCount h) answers k ≡ slotTold (mateOf h done)
 unfolding mateIn mateOf
 mate-told h answers done k l t =
@@ -211,7 +213,12 @@ record-at h i e k c z =
     let f = four-slots h i e in
     let p : getD (i .slots) k z ≡ getD (i .slots) k absent = getD-within (i .slots) k z absent (omega (arith, four-at-most h)) in
     let small = small-record (isMpeg1 (h .version)) (getD (i .slots) k absent) (slot-record h i e k c) in
-    record { same = p; length-lt = omega (arith, ap (λ (r : SlotRecord). r .«part2_3_length») p, small .0); pairs-le = omega (arith, ap (λ (r : SlotRecord). r .«big_values») p, small .1) }
+    record {
+      same = p;
+      length-lt = omega (arith, ap (λ (r : SlotRecord). r .«part2_3_length») p, small .0);
+      pairs-le = omega
+          (arith, ap (λ (r : SlotRecord). r .«big_values») p, small .1);
+    }
 
 pub part-long : (k : ℕ) (d : List ℤ) → 576 * k + 576 ≤ length d → length (midOf (576 * k) (576 * k + 576 - 576 * k) d) ≡ 576
 part-long k d h =

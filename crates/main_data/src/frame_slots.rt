@@ -65,7 +65,8 @@ pub(crate) fn slots_from(
     numbers: &mut [i32],
 ) -> [SlotAnswer; 4]
     requires { ⌜ (now links ≡ trees) × (perFrame ≤ length (now numbers)) × (isSide h i ≡ true) ⌝ }
-    ensures { λ r. ⌜ (r ≡ slotsTold (slotsOf h i (now (main .entry)))) × (now (numbers .exit) ≡ numbersFrom 0 (slotsOf h i (now (main .entry))) (now (numbers .entry))) ⌝ }
+    ensures { λ r. ⌜ (r ≡ slotsTold (slotsOf h i (now (main .entry))))
+        × (now (numbers .exit) ≡ numbersFrom 0 (slotsOf h i (now (main .entry))) (now (numbers .entry))) ⌝ }
 {
     let channels = channel_count(h);
     let n = granules(h) * channels;

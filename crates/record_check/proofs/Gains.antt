@@ -62,6 +62,8 @@ module _ (g : Float) where
   abbrev Off : ℕ → Type 0
   Off p = toBits binary32 g ≡ p → ⊥
 
-  pub gain-none : Off 0 → Off 0x3f80_0000 → Off 0x4000_0000 → Off 0x4040_0000 → Off 0x4080_0000 → Off 0x40a0_0000 → Off 0x40c0_0000 → Off 0x40e0_0000 → 8 ≡ gainNumber g
+  pub gain-none : Off 0 → Off 0x3f80_0000 → Off 0x4000_0000 → Off 0x4040_0000 → Off 0x4080_0000 → Off 0x40a0_0000 → Off 0x40c0_0000 → Off 0x40e0_0000
+      → 8 ≡ gainNumber g
   unfolding gainNumber place later gainsRow
-  gain-none a b c d e f h i = simp (unlike 0 refl a, unlike 1 refl b, unlike 2 refl c, unlike 3 refl d, unlike 4 refl e, unlike 5 refl f, unlike 6 refl h, unlike 7 refl i)
+  gain-none a b c d e f h i =
+      simp (unlike 0 refl a, unlike 1 refl b, unlike 2 refl c, unlike 3 refl d, unlike 4 refl e, unlike 5 refl f, unlike 6 refl h, unlike 7 refl i)

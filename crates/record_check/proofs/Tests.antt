@@ -35,7 +35,9 @@ unfolding isPreflag
 preflag-is true r = refl
 preflag-is false r = refl
 
-pub head-is : (mpeg1 : Bool) (r : SlotRecord) {c : ℕ} → c ≡ compressWidth mpeg1 → r .«global_gain» < 256 → ltb (r .«part2_3_length») 4096 && leb (r .«big_values») 288 && ltb (r .«scalefac_compress») (1 * 2 ^ c % 2 ^ 16) && (mpeg1 || Bool·beq (r .preflag) (leb 500 (r .«scalefac_compress»))) ≡ isHead mpeg1 r
+pub head-is : (mpeg1 : Bool) (r : SlotRecord) {c : ℕ} → c ≡ compressWidth mpeg1 → r .«global_gain» < 256
+    → ltb (r .«part2_3_length») 4096 && leb (r .«big_values») 288 && ltb (r .«scalefac_compress») (1 * 2 ^ c % 2 ^ 16) &&
+    (mpeg1 || Bool·beq (r .preflag) (leb 500 (r .«scalefac_compress»))) ≡ isHead mpeg1 r
 unfolding isHead
 head-is mpeg1 r {c} e h =
     let k : compressWidth mpeg1 < 16 = omega (arith, width mpeg1) in
@@ -49,7 +51,8 @@ pub record All {A : Type 0} (F : ℕ → List A → Bool) (s : List A) (i : ℕ)
 pub all-begin : {A : Type 0} (F : ℕ → List A → Bool) (s : List A) → All F s 0
 all-begin F s = record { some = omega arith; same = refl }
 
-module _ {A : Type 0} (F : ℕ → List A → Bool) (test : ℕ → A → Bool) (step : (i : ℕ) (x : A) (l : List A) → F i (x ∷ l) ≡ test i x && F (i + 1) l) (d : A) {s : List A} {i : ℕ} (l : All F s i) where
+module _ {A : Type 0} (F : ℕ → List A → Bool) (test : ℕ → A → Bool) (step : (i : ℕ) (x : A) (l : List A) → F i (x ∷ l) ≡ test i x && F (i + 1) l)
+    (d : A) {s : List A} {i : ℕ} (l : All F s i) where
   next : i < length s → F 0 s ≡ test i (getD s i d) && F (i + 1) (drop (i + 1) s)
   next h = l .same ∙ ap (F i) (drop-cons s i d h ∙ ap (λ (k : ℕ). getD s i d ∷ drop k s) (sym (add-one i))) ∙ step i (getD s i d) (drop (i + 1) s)
 
@@ -141,6 +144,8 @@ pastSlot =
     }
 
 -- ---- the whole
-pub side-is : (mpeg1 two : Bool) (i : SideInfo) {l : Layout} {a b : Bool} → l ≡ layoutOf mpeg1 two → l .«main_data_begin» < 16 → a ≡ areShares (l .shares) (i .scfsi) → b ≡ areSlots mpeg1 (l .slots) (i .slots) → ltb (i .«main_data_begin») (1 * 2 ^ l .«main_data_begin» % 2 ^ 16) && a && b ≡ isSideBy mpeg1 two i
+pub side-is : (mpeg1 two : Bool) (i : SideInfo) {l : Layout} {a b : Bool} → l ≡ layoutOf mpeg1 two → l .«main_data_begin» < 16
+    → a ≡ areShares (l .shares) (i .scfsi) → b ≡ areSlots mpeg1 (l .slots) (i .slots)
+    → ltb (i .«main_data_begin») (1 * 2 ^ l .«main_data_begin» % 2 ^ 16) && a && b ≡ isSideBy mpeg1 two i
 unfolding isSideBy
 side-is mpeg1 two i {l} e h f g = rw (mask 16 (l .«main_data_begin») h, f, g, e)

@@ -21,7 +21,8 @@ band-turn old d₀ d left from w j at r e h l s =
     let one = copying-turn _ d₀ d from (3 * j) r (pos 0) at _ e (sym (band-first from w old j h)) (omega arith) (omega arith) in
     let two = copying-turn _ d₀ _ from (3 * j + 1) one (pos 0) (at + 1) _ (omega arith) (sym (band-second from w old j h)) (omega arith) (omega arith) in
     let q : 3 * j + 1 + 1 ≡ 3 * j + 2 = omega arith in
-    let three = copying-turn _ d₀ _ from (3 * j + 2) (rw q at two) (pos 0) (at + 2) _ (omega arith) (sym (band-third from w old j h)) (omega arith) (omega arith) in
+    let three = copying-turn _ d₀ _ from (3 * j + 2) (rw q at two) (pos 0) (at + 2) _ (omega arith) (sym (band-third from w old j h)) (omega arith)
+    (omega arith) in
     let p : 3 * j + 2 + 1 ≡ 3 * (j + 1) = omega arith in
     rw s (rw p at three)
 
@@ -57,7 +58,9 @@ module _ (rate : SampleRate) (first : ℕ) (old d₀ d : List ℤ) (k : ℕ) (r 
     same =
         r .same
         ∙ ap (λ (l : List ℤ). take (3 * sb) d ++ l ++ drop 576 d₀) (order-band rate k old h)
-        ∙ ap (λ (l : List ℤ). l ++ drop 576 d₀) (sym (append-assoc (take (3 * sb) d) band (gathered (orderOf rate (k + 1)) old)) ∙ ap (λ (l : List ℤ). l ++ gathered (orderOf rate (k + 1)) old) (sym front));
+        ∙ ap (λ (l : List ℤ). l ++ drop 576 d₀)
+        (sym (append-assoc (take (3 * sb) d) band (gathered (orderOf rate (k + 1)) old))
+        ∙ ap (λ (l : List ℤ). l ++ gathered (orderOf rate (k + 1)) old) (sym front));
     kept =
         (λ j. drop (sym reach j) (is j))
         ∙ drop-paste d (3 * sb) band n (omega (arith, r .long, r .room, rise, top)) (omega (arith, many))

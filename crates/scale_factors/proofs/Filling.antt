@@ -51,7 +51,10 @@ module _ (fs : List ℕ) (a : List (List ℕ)) (b : ℕ) (w : InBands fs a b) wh
       let rest : drop 3 (drop (3 * b) fs) ≡ drop (3 * (b + 1)) fs = drop-drop 3 (3 * b) fs ∙ ap (λ (n : ℕ). drop n fs) m in
       record {
         within = omega arith;
-        same = fill-turn (bandsOf 13 fs) a b (getD fs (3 * b) 0 ∷ getD fs (3 * b + 1) 0 ∷ getD fs (3 * b + 2) 0 ∷ []) (bandsOf (13 - (b + 1)) (drop (3 * (b + 1)) fs)) (w .same ∙ ap (λ (n : ℕ). sets a b (bandsOf n (drop (3 * b) fs))) k ∙ (λ j. sets a b (row j ∷ bandsOf (13 - (b + 1)) (rest j))));
+        same =
+            fill-turn (bandsOf 13 fs) a b (getD fs (3 * b) 0 ∷ getD fs (3 * b + 1) 0 ∷ getD fs (3 * b + 2) 0 ∷ [])
+            (bandsOf (13 - (b + 1)) (drop (3 * (b + 1)) fs))
+            (w .same ∙ ap (λ (n : ℕ). sets a b (bandsOf n (drop (3 * b) fs))) k ∙ (λ j. sets a b (row j ∷ bandsOf (13 - (b + 1)) (rest j))));
       }
 
   pub bands-end : 13 ≤ b → a ≡ bandsOf 13 fs
@@ -74,7 +77,9 @@ module _ (a : List (List ℕ)) (fs : List ℕ) (k : ℕ) (w : InCells a fs k) wh
       let n : 39 - k ≡ suc (39 - (k + 1)) = omega arith in
       record {
         within = omega arith;
-        same = fill-turn (flatOf a) fs k (cell a k) (cellsFrom a (k + 1) (39 - (k + 1))) (w .same ∙ ap (λ (m : ℕ). sets fs k (cellsFrom a k m)) n ∙ ap (λ (i : ℕ). sets fs k (cell a k ∷ cellsFrom a i (39 - (k + 1)))) (sym (add-one k)));
+        same =
+            fill-turn (flatOf a) fs k (cell a k) (cellsFrom a (k + 1) (39 - (k + 1)))
+            (w .same ∙ ap (λ (m : ℕ). sets fs k (cellsFrom a k m)) n ∙ ap (λ (i : ℕ). sets fs k (cell a k ∷ cellsFrom a i (39 - (k + 1)))) (sym (add-one k)));
       }
 
   pub cells-end : 39 ≤ k → fs ≡ flatOf a

@@ -28,7 +28,8 @@ unfolding groupsFrom planBits
 four-bits p = simp plan-bits-append (omega arith)
 
 -- only long bands share, and there are no more than granule 0 has
-share-long : (mpeg1 intensity : Bool) (shares : List Bool) (k : Shape) (c g : ℕ) → getD (planBy mpeg1 intensity shares k c .shares) g false ≡ true → factorCount mpeg1 k ≤ 22
+share-long : (mpeg1 intensity : Bool) (shares : List Bool) (k : Shape) (c g : ℕ) → getD (planBy mpeg1 intensity shares k c .shares) g false ≡ true
+    → factorCount mpeg1 k ≤ 22
 share-long mpeg1 intensity shares AllLong c g e = omega arith
 share-long mpeg1 intensity shares AllShort c g e = never (sym (shape-unshares mpeg1 intensity shares AllShort c refl g) ∙ e)
 
@@ -83,7 +84,8 @@ module _ (mpeg1 : Bool) (k : Shape) (l more : List ℕ) (e : length l ≡ factor
   unfolding longFactors
   long-taken = ap (λ (x : List ℕ). x ++ zeros (22 - longCount mpeg1 k)) (take-append-le (longCount mpeg1 k) l more (omega arith))
 
-  short-taken : zeros (shortFrom k) ++ take (shortCount k) (drop (longCount mpeg1 k) (l ++ more)) ++ zeros (39 - (shortFrom k + shortCount k)) ≡ shortFactors mpeg1 k l
+  short-taken : zeros (shortFrom k) ++ take (shortCount k) (drop (longCount mpeg1 k) (l ++ more)) ++ zeros (39 - (shortFrom k + shortCount k))
+      ≡ shortFactors mpeg1 k l
   unfolding shortFactors
   short-taken =
       let n = longCount mpeg1 k in
@@ -94,7 +96,8 @@ module _ (mpeg1 : Bool) (k : Shape) (l more : List ℕ) (e : length l ≡ factor
 
 -- laid out in thirteen bands, 39 factors are the same one after the other
 pub bands-back : (fs : List ℕ) (n c from : ℕ) → length fs ≡ 36 → n + c ≤ 36 → from + c ≤ 36
-    → flatOf (bandsOf 13 (zeros from ++ take (n + c - n) (drop n fs) ++ zeros (39 - (from + (n + c - n))))) ≡ zeros from ++ take c (drop n fs) ++ zeros (39 - (from + c))
+    → flatOf (bandsOf 13 (zeros from ++ take (n + c - n) (drop n fs) ++ zeros (39 - (from + (n + c - n))))) ≡ zeros from ++ take c (drop n fs)
+    ++ zeros (39 - (from + c))
 bands-back fs n c from l h k =
     let d : n + c - n ≡ c = omega arith in
     (λ j. flatOf (bandsOf 13 (zeros from ++ take (d j) (drop n fs) ++ zeros (39 - (from + d j)))))
@@ -135,5 +138,6 @@ module _ (g : Setting) (r : SlotRecord) (old s : List ℕ) (at : ℕ) (p : Plan)
     pub short-read : zeros (shortFrom k) ++ take (shortCount k) (drop n fs) ++ zeros (39 - (shortFrom k + shortCount k))
         ≡ shortFactors (g .mpeg1) (shapeOf r) (factorsAt g r old s at)
     short-read =
-        (λ j. zeros (shortFrom (shape j)) ++ take (shortCount (shape j)) (drop (long-many j) (factors-first j)) ++ zeros (39 - (shortFrom (shape j) + shortCount (shape j))))
+        (λ j. zeros (shortFrom (shape j)) ++ take (shortCount (shape j)) (drop (long-many j) (factors-first j))
+        ++ zeros (39 - (shortFrom (shape j) + shortCount (shape j))))
         ∙ short-taken (g .mpeg1) (shapeOf r) (factorsAt g r old s at) more count

@@ -68,7 +68,8 @@ module _ (answer : List ℕ) (stop : ℕ) (fs : List ℕ) (i : ℕ) (old s : Lis
       let w : planBits (x ∷ []) ≡ widthOf x = plan-bits-cons x [] ∙ add-zero (widthOf x) in
       let o : getD old i 0 ≡ getD (drop i old) 0 0 = sym (getD-drop i old 0 0 ∙ ap (λ (k : ℕ). getD old k 0) (add-zero i)) in
       let v-is : v ≡ factorBy x (getD (drop i old) 0 0) (bits s place (planBits (x ∷ []))) = e ∙ (λ j. factorBy x (o j) (bits s place (sym w j))) in
-      let q : set fs i v ≡ filled fs i (x ∷ []) old s place = ap (set fs i) v-is ∙ ap (sets fs i) (sym (factors-cons x [] (drop i old) (bits s place (planBits (x ∷ []))))) in
+      let q : set fs i v ≡ filled fs i (x ∷ []) old s place = ap (set fs i) v-is
+      ∙ ap (sets fs i) (sym (factors-cons x [] (drop i old) (bits s place (planBits (x ∷ []))))) in
       subst (λ (n : ℕ). Reading answer stop (set fs i v) (i + 1) ps old s (place + n)) w (reading-part (x ∷ []) ps r q)
 
   pub reading-end : Reading answer stop fs i [] old s place → (place ≡ stop) × (fs ≡ answer)
@@ -86,7 +87,8 @@ narrow-width {p} {g} r e = omega (arith, source-small (getD (p .shares) g false)
 pub record InGroup (x : Source) (old s : List ℕ) (at : ℕ) (before : List ℕ) (first end : ℕ) (fs : List ℕ) (place i : ℕ) : Type 0 where
   pub within : i ≤ end
   pub long : length fs ≡ length before
-  pub reads : Reading (filled before first (replicate (end - first) x) old s at) (at + planBits (replicate (end - first) x)) fs i (replicate (end - i) x) old s place
+  pub reads : Reading (filled before first (replicate (end - first) x) old s at) (at + planBits (replicate (end - first) x)) fs i
+      (replicate (end - i) x) old s place
 
 module _ (x : Source) (old s : List ℕ) (at : ℕ) (before : List ℕ) (first end : ℕ) where
   pub group-begin : first ≤ end → InGroup x old s at before first end before at first
@@ -104,7 +106,9 @@ module _ (x : Source) (old s : List ℕ) (at : ℕ) (before : List ℕ) (first e
         record {
           within = omega arith;
           long = length-set fs i v ∙ w .long;
-          reads = subst (λ (n : ℕ). Reading answer stop (set fs i v) (i + 1) rest old s (place + n)) (sym e) (reading-one answer stop fs i old s place x rest v r q);
+          reads =
+              subst (λ (n : ℕ). Reading answer stop (set fs i v) (i + 1) rest old s (place + n)) (sym e)
+              (reading-one answer stop fs i old s place x rest v r q);
         }
 
     module _ (p : Plan) (g : ℕ) (e : replicate (end - first) x ≡ group p g) where
@@ -161,13 +165,17 @@ module _ (p : Plan) (old s : List ℕ) (at : ℕ) (before : List ℕ) where
         let own = group p g in
         let rest = groupsFrom p (g + 1) (4 - (g + 1)) in
         let n = group-length p g in
-        let r : Reading answer stop fs done (own ++ rest) old s place = subst (λ (ps : List Source). Reading answer stop fs done ps old s place) (next-group p g h) (w .reads) in
-        let r′ : Reading answer stop fs′ (done + length own) rest old s (place + planBits own) = reading-part answer stop fs done old s place own rest r (e .1) in
+        let r : Reading answer stop fs done (own ++ rest) old s place = subst (λ (ps : List Source). Reading answer stop fs done ps old s place)
+        (next-group p g h) (w .reads) in
+        let r′ : Reading answer stop fs′ (done + length own) rest old s (place + planBits own) = reading-part answer stop fs done old s place own rest r
+        (e .1) in
         record {
           within = omega arith;
           long = ap length (e .1) ∙ filled-length fs done own old s place ∙ w .long;
           count = omega (arith, w .count, n, simp length-append at (ap length (next-group p g h)));
-          reads = subst (λ (k : ℕ). Reading answer stop fs′ (done + k) rest old s place′) n (subst (Reading answer stop fs′ (done + length own) rest old s) (sym (e .0)) r′);
+          reads =
+              subst (λ (k : ℕ). Reading answer stop fs′ (done + k) rest old s place′) n
+              (subst (Reading answer stop fs′ (done + length own) rest old s) (sym (e .0)) r′);
         }
 
     pub plan-end : 4 ≤ g → fs ≡ filled before 0 (sourcesOf p) old s at

@@ -13,7 +13,8 @@ pub bytes-none : (s : List ℕ) (i : ℕ) → 0 ≡ fieldAt s (8 * i) (8 * 0)
 unfolding fieldAt bits value valueFrom
 bytes-none s i = refl
 
-pub bytes-more : (s : List ℕ) (i k : ℕ) {v x : ℕ} → v ≡ fieldAt s (8 * i) (8 * k) → x ≡ fieldAt s (8 * (i + k)) 8 → v * 256 + x ≡ fieldAt s (8 * i) (8 * (k + 1))
+pub bytes-more : (s : List ℕ) (i k : ℕ) {v x : ℕ} → v ≡ fieldAt s (8 * i) (8 * k) → x ≡ fieldAt s (8 * (i + k)) 8
+    → v * 256 + x ≡ fieldAt s (8 * i) (8 * (k + 1))
 bytes-more s i k e f =
     let p : 8 * (i + k) ≡ 8 * i + 8 * k = omega arith in
     let q : 8 * k + 8 ≡ 8 * (k + 1) = omega arith in

@@ -24,12 +24,14 @@ unfolding ofBits ofInt
 zero-gain = refl
 
 -- n bits that stand at j of a number, with m bits after them, and at k of the record
-pub cut : (mpeg1 : Bool) (s : List ℕ) (at a j n m k : ℕ) {v : ℕ} → v ≡ fieldAt s a (j + n + m) → a + j ≡ at + k → k + n ≤ recordWidth mpeg1 → v / 2 ^ m % 2 ^ n ≡ field (recordBits mpeg1 s at) k n
+pub cut : (mpeg1 : Bool) (s : List ℕ) (at a j n m k : ℕ) {v : ℕ} → v ≡ fieldAt s a (j + n + m) → a + j ≡ at + k → k + n ≤ recordWidth mpeg1
+    → v / 2 ^ m % 2 ^ n ≡ field (recordBits mpeg1 s at) k n
 cut mpeg1 s at a j n m k e p h =
     ap (λ (v : ℕ). v / 2 ^ m % 2 ^ n) e ∙ sym (fieldAt-cut s a j n m) ∙ ap (λ (i : ℕ). fieldAt s i n) p ∙ sym (field-bits s at (recordWidth mpeg1) k n h)
 
 -- ---- what every record has
-pub compress-there : (mpeg1 : Bool) (s : List ℕ) (at : ℕ) {n x : ℕ} → n ≡ compressWidth mpeg1 → x ≡ fieldAt s (at + 29) n → x ≡ field (recordBits mpeg1 s at) 29 (compressWidth mpeg1)
+pub compress-there : (mpeg1 : Bool) (s : List ℕ) (at : ℕ) {n x : ℕ} → n ≡ compressWidth mpeg1 → x ≡ fieldAt s (at + 29) n
+    → x ≡ field (recordBits mpeg1 s at) 29 (compressWidth mpeg1)
 compress-there mpeg1 s at e f = f ∙ ap (fieldAt s (at + 29)) e ∙ sym (field-bits s at (recordWidth mpeg1) 29 (compressWidth mpeg1) (omega (arith, width mpeg1)))
 
 pub preflag-read : (mpeg1 : Bool) (s : List ℕ) (at : ℕ) → mpeg1 ≡ true → bitAt s (at + 56) ≡ preflagOf mpeg1 (recordBits mpeg1 s at)
@@ -37,7 +39,8 @@ unfolding preflagOf
 preflag-read true s at e = sym (flag-bits s at 59 56 (omega arith))
 preflag-read false s at e = never e
 
-pub preflag-follows : (mpeg1 : Bool) (s : List ℕ) (at : ℕ) {x : ℕ} → mpeg1 ≡ false → x ≡ field (recordBits mpeg1 s at) 29 (compressWidth mpeg1) → leb 500 x ≡ preflagOf mpeg1 (recordBits mpeg1 s at)
+pub preflag-follows : (mpeg1 : Bool) (s : List ℕ) (at : ℕ) {x : ℕ} → mpeg1 ≡ false → x ≡ field (recordBits mpeg1 s at) 29 (compressWidth mpeg1)
+    → leb 500 x ≡ preflagOf mpeg1 (recordBits mpeg1 s at)
 unfolding preflagOf
 preflag-follows true s at e f = never (sym e)
 preflag-follows false s at e f = ap (leb 500) f
@@ -50,7 +53,10 @@ count1-there : (mpeg1 : Bool) (s : List ℕ) (at : ℕ) → bitAt s (at + record
 count1-there true s at = let p : at + 59 - 1 ≡ at + 58 = omega arith in ap (bitAt s) p ∙ sym (flag-bits s at 59 58 (omega arith))
 count1-there false s at = let p : at + 63 - 1 ≡ at + 62 = omega arith in ap (bitAt s) p ∙ sym (flag-bits s at 63 62 (omega arith))
 
-pub common-read : (mpeg1 : Bool) (s : List ℕ) (at : ℕ) {v x n : ℕ} {p q r : Bool} → v ≡ fieldAt s at 29 → x ≡ field (recordBits mpeg1 s at) 29 (compressWidth mpeg1) → n ≡ recordWidth mpeg1 → p ≡ preflagOf mpeg1 (recordBits mpeg1 s at) → q ≡ bitAt s (at + n - 2) → r ≡ bitAt s (at + n - 1) → record { «part2_3_length» = v / 2 ^ 17 % 2 ^ 12; «big_values» = v / 2 ^ 8 % 2 ^ 9; «global_gain» = v % 2 ^ 8; «scalefac_compress» = x; preflag = p; «scalefac_scale» = q; «count1table_select» = r } ≡ commonOf mpeg1 (recordBits mpeg1 s at)
+pub common-read : (mpeg1 : Bool) (s : List ℕ) (at : ℕ) {v x n : ℕ} {p q r : Bool} → v ≡ fieldAt s at 29
+    → x ≡ field (recordBits mpeg1 s at) 29 (compressWidth mpeg1) → n ≡ recordWidth mpeg1 → p ≡ preflagOf mpeg1 (recordBits mpeg1 s at)
+    → q ≡ bitAt s (at + n - 2) → r ≡ bitAt s (at + n - 1)
+    → record { «part2_3_length» = v / 2 ^ 17 % 2 ^ 12; «big_values» = v / 2 ^ 8 % 2 ^ 9; «global_gain» = v % 2 ^ 8; «scalefac_compress» = x; preflag = p; «scalefac_scale» = q; «count1table_select» = r } ≡ commonOf mpeg1 (recordBits mpeg1 s at)
 unfolding commonOf
 common-read mpeg1 s at {v} {x} {n} {p} {q} {r} e f g h i k = λ j. record {
   «part2_3_length» = cut mpeg1 s at at 0 12 17 0 e refl (omega (arith, width mpeg1)) j;
@@ -116,18 +122,21 @@ module _ {mpeg1 : Bool} {s : List ℕ} {at : ℕ} {k : Common} {w : ℕ} (e : Pa
       unfolding recordOf recordIn
       says-mixed l m = passed _ (few h) ∙ passed _ (ap not (set 0 22 refl i)) ∙ passed _ (other l) ∙ picked _ (set 3 19 refl m)
 
-      pub says-switched : (w / 2 ^ 20 % 4 ≡ 0 → ⊥) → (w / 2 ^ 19 % 2 ≡ 1 → ⊥) → recordOf mpeg1 (recordBits mpeg1 s at) ≡ told (switchedOf mpeg1 (compressWidth mpeg1) (blockOf (w / 2 ^ 20 % 4)) (recordBits mpeg1 s at))
+      pub says-switched : (w / 2 ^ 20 % 4 ≡ 0 → ⊥) → (w / 2 ^ 19 % 2 ≡ 1 → ⊥)
+          → recordOf mpeg1 (recordBits mpeg1 s at) ≡ told (switchedOf mpeg1 (compressWidth mpeg1) (blockOf (w / 2 ^ 20 % 4)) (recordBits mpeg1 s at))
       unfolding recordOf recordIn
       says-switched l m =
           passed _ (few h) ∙ passed _ (ap not (set 0 22 refl i)) ∙ passed _ (other l) ∙ passed _ (unset 3 19 refl m)
           ∙ ap (λ (t : ℕ). told (switchedOf mpeg1 c (blockOf t) b)) (sym (window-cut 1 2 20 refl))
 
   -- ---- the record, where it has no fault
-  pub long-is : {a : SlotRecord} → (w / 2 ^ 22 % 2 ≡ 1 → ⊥) → recordOf mpeg1 (recordBits mpeg1 s at) ≡ told a → longOf mpeg1 (compressWidth mpeg1) (recordBits mpeg1 s at) ≡ a
+  pub long-is : {a : SlotRecord} → (w / 2 ^ 22 % 2 ≡ 1 → ⊥) → recordOf mpeg1 (recordBits mpeg1 s at) ≡ told a
+      → longOf mpeg1 (compressWidth mpeg1) (recordBits mpeg1 s at) ≡ a
   unfolding recordOf recordIn
   long-is {a} i f = told-is (sym (picked _ (ap not (unset 0 22 refl i))) ∙ no-refusal _ _ _ a f .1)
 
-  pub switched-is : {a : SlotRecord} → w / 2 ^ 22 % 2 ≡ 1 → recordOf mpeg1 (recordBits mpeg1 s at) ≡ told a → switchedOf mpeg1 (compressWidth mpeg1) (blockOf (w / 2 ^ 20 % 4)) (recordBits mpeg1 s at) ≡ a
+  pub switched-is : {a : SlotRecord} → w / 2 ^ 22 % 2 ≡ 1 → recordOf mpeg1 (recordBits mpeg1 s at) ≡ told a
+      → switchedOf mpeg1 (compressWidth mpeg1) (blockOf (w / 2 ^ 20 % 4)) (recordBits mpeg1 s at) ≡ a
   unfolding recordOf recordIn
   switched-is {a} i f =
       let g = sym (passed _ (ap not (set 0 22 refl i))) ∙ no-refusal _ _ _ a f .1 in

@@ -21,7 +21,8 @@ use Rattle.side_info.proofs.Given.{gives-none, gives-told, given-none, 
 use Rattle.record_check.proofs.Widths.{width}
 
 -- one more is stored in an array of n places
-stored : {A : Type 0} (n i : ℕ) (d x : A) (done : List A) {xs : List A} → length done ≡ i → i < n → xs ≡ done ++ replicate (n - i) d → set xs i x ≡ (done ++ x ∷ []) ++ replicate (n - (i + 1)) d
+stored : {A : Type 0} (n i : ℕ) (d x : A) (done : List A) {xs : List A} → length done ≡ i → i < n → xs ≡ done ++ replicate (n - i) d
+    → set xs i x ≡ (done ++ x ∷ []) ++ replicate (n - (i + 1)) d
 stored {A} n i d x done l h e =
     let q : n - i ≡ suc (n - (i + 1)) = omega arith in
     ap (λ (y : List A). set y i x) (e ∙ ap (λ (k : ℕ). done ++ replicate k d) q)
@@ -34,7 +35,9 @@ module _ (mpeg1 : Bool) (s : List ℕ) where
   abbrev rest : ℕ → ℕ → Told (List SlotRecord)
   rest k at = recordsOf mpeg1 k (bits s at (k * recordWidth mpeg1))
 
-  rest-step : (k at : ℕ) → recordsOf mpeg1 (suc k) (bits s at (suc k * recordWidth mpeg1)) ≡ thenRecords (recordOf mpeg1 (recordBits mpeg1 s at)) (recordsOf mpeg1 k (bits s (at + recordWidth mpeg1) (k * recordWidth mpeg1)))
+  rest-step : (k at : ℕ)
+      → recordsOf mpeg1 (suc k) (bits s at (suc k * recordWidth mpeg1))
+      ≡ thenRecords (recordOf mpeg1 (recordBits mpeg1 s at)) (recordsOf mpeg1 k (bits s (at + recordWidth mpeg1) (k * recordWidth mpeg1)))
   unfolding recordsOf
   rest-step k at =
       let w = recordWidth mpeg1 in
@@ -76,20 +79,24 @@ records-begin mpeg1 n s start = record {
 }
 
 module _ {mpeg1 : Bool} {n : ℕ} {s : List ℕ} {start : ℕ} {slots : List SlotRecord} {at i : ℕ} (l : RecordsLoop mpeg1 n s start slots at i) where
-  one-more : i < n → rest mpeg1 s n start ≡ after (l .done) (thenRecords (recordOf mpeg1 (recordBits mpeg1 s at)) (rest mpeg1 s (n - (i + 1)) (at + recordWidth mpeg1)))
+  one-more : i < n
+      → rest mpeg1 s n start ≡ after (l .done) (thenRecords (recordOf mpeg1 (recordBits mpeg1 s at)) (rest mpeg1 s (n - (i + 1)) (at + recordWidth mpeg1)))
   one-more h =
       let q : n - i ≡ suc (n - (i + 1)) = omega arith in
       l .same ∙ ap (λ (k : ℕ). after (l .done) (rest mpeg1 s k at)) q ∙ ap (after (l .done)) (rest-step mpeg1 s (n - (i + 1)) at)
 
   -- a record is refused
-  pub records-stop : {v : Verdict} {x : SlotRecord} {r : Refusal} → Gives v x (recordOf mpeg1 (recordBits mpeg1 s at)) → v ≡ Refused r → i < n → Gives v slots (filled n (recordsOf mpeg1 n (bits s start (n * recordWidth mpeg1))))
+  pub records-stop : {v : Verdict} {x : SlotRecord} {r : Refusal} → Gives v x (recordOf mpeg1 (recordBits mpeg1 s at)) → v ≡ Refused r → i < n
+      → Gives v slots (filled n (recordsOf mpeg1 n (bits s start (n * recordWidth mpeg1))))
   unfolding after thenRecords
   records-stop {v} {x} {r} a e h =
       gives-none e
-      (ap (filled n) (one-more h ∙ ap (λ (t : Told SlotRecord). after (l .done) (thenRecords t (rest mpeg1 s (n - (i + 1)) (at + recordWidth mpeg1)))) (given-none a e)))
+      (ap (filled n)
+      (one-more h ∙ ap (λ (t : Told SlotRecord). after (l .done) (thenRecords t (rest mpeg1 s (n - (i + 1)) (at + recordWidth mpeg1)))) (given-none a e)))
 
   -- or read
-  pub records-turn : {v : Verdict} {x : SlotRecord} {w : ℕ} → Gives v x (recordOf mpeg1 (recordBits mpeg1 s at)) → v ≡ Accepted → w ≡ recordWidth mpeg1 → i < n → n ≤ 4 → RecordsLoop mpeg1 n s start (set slots i x) (at + w) (i + 1)
+  pub records-turn : {v : Verdict} {x : SlotRecord} {w : ℕ} → Gives v x (recordOf mpeg1 (recordBits mpeg1 s at)) → v ≡ Accepted → w ≡ recordWidth mpeg1
+      → i < n → n ≤ 4 → RecordsLoop mpeg1 n s start (set slots i x) (at + w) (i + 1)
   records-turn {v} {x} {w} a e f h m = record {
     done = l .done ++ x ∷ [];
     some = omega arith;

@@ -40,10 +40,24 @@ module _ (mpeg1 two : Bool) (b : List Bool) where
   side-none (refused k) e = ap refused (one-reason e)
   side-none (told rs) e = apart (sym e)
 
-  side-all : {slots : List SlotRecord} (t : Told (List SlotRecord)) → filled (slotCount mpeg1 two) t ≡ told slots → thenSide mpeg1 two b t ≡ told (record { «main_data_begin» = field b 0 (beginWidth mpeg1); scfsi = take (shareCount mpeg1 two) (drop (sharesAt mpeg1 two) b) ++ replicate (8 - shareCount mpeg1 two) false; slots = slots })
+  side-all : {slots : List SlotRecord} (t : Told (List SlotRecord)) → filled (slotCount mpeg1 two) t ≡ told slots
+      → thenSide mpeg1 two b t
+      ≡ told (record {
+        «main_data_begin» = field b 0 (beginWidth mpeg1);
+        scfsi = take (shareCount mpeg1 two) (drop (sharesAt mpeg1 two) b)
+            ++ replicate (8 - shareCount mpeg1 two) false;
+        slots = slots;
+      })
   unfolding thenSide
   side-all {slots} (refused k) e = apart e
-  side-all {slots} (told rs) e = λ j. told (record { «main_data_begin» = field b 0 (beginWidth mpeg1); scfsi = take (shareCount mpeg1 two) (drop (sharesAt mpeg1 two) b) ++ replicate (8 - shareCount mpeg1 two) false; slots = told-is e j })
+  side-all {slots} (told rs) e =
+      λ j. told
+      (record {
+        «main_data_begin» = field b 0 (beginWidth mpeg1);
+        scfsi = take (shareCount mpeg1 two) (drop (sharesAt mpeg1 two) b)
+            ++ replicate (8 - shareCount mpeg1 two) false;
+        slots = told-is e j;
+      })
 
 -- ---- where the parts stand
 module _ (mpeg1 two : Bool) (s : List ℕ) (at : ℕ) where
@@ -74,19 +88,37 @@ module _ (mpeg1 two : Bool) (s : List ℕ) (at : ℕ) where
       field-bits s at (8 * sideBytes mpeg1 two) 0 (beginWidth mpeg1) (omega (arith, full mpeg1 two)) ∙ ap (λ (a : ℕ). fieldAt s a (beginWidth mpeg1)) q
 
   module _ {v : Verdict} {slots : List SlotRecord} where
-    given-there : {l : Layout} → l ≡ layoutOf mpeg1 two → Gives v slots (filled (l .slots) (recordsOf mpeg1 (l .slots) (bits s (at + l .prefix + l .shares) (l .slots * recordWidth mpeg1)))) → Gives v slots (filled n (recordsOf mpeg1 n (drop (p + m) b)))
+    given-there : {l : Layout} → l ≡ layoutOf mpeg1 two
+        → Gives v slots (filled (l .slots) (recordsOf mpeg1 (l .slots) (bits s (at + l .prefix + l .shares) (l .slots * recordWidth mpeg1))))
+        → Gives v slots (filled n (recordsOf mpeg1 n (drop (p + m) b)))
     given-there e h = rw records-there (rw e at h)
 
-    pub side-refused : {l : Layout} {r : Refusal} → l ≡ layoutOf mpeg1 two → Gives v slots (filled (l .slots) (recordsOf mpeg1 (l .slots) (bits s (at + l .prefix + l .shares) (l .slots * recordWidth mpeg1)))) → v ≡ Refused r → sideIn mpeg1 two (bits s at (8 * sideBytes mpeg1 two)) ≡ refused r
+    pub side-refused : {l : Layout} {r : Refusal} → l ≡ layoutOf mpeg1 two
+        → Gives v slots (filled (l .slots) (recordsOf mpeg1 (l .slots) (bits s (at + l .prefix + l .shares) (l .slots * recordWidth mpeg1)))) → v ≡ Refused r
+        → sideIn mpeg1 two (bits s at (8 * sideBytes mpeg1 two)) ≡ refused r
     unfolding sideIn
     side-refused e h f = side-none mpeg1 two b (recordsOf mpeg1 n (drop (p + m) b)) (given-none (given-there e h) f)
 
-    pub side-told : {l : Layout} → l ≡ layoutOf mpeg1 two → Gives v slots (filled (l .slots) (recordsOf mpeg1 (l .slots) (bits s (at + l .prefix + l .shares) (l .slots * recordWidth mpeg1)))) → v ≡ Accepted → sideIn mpeg1 two (bits s at (8 * sideBytes mpeg1 two)) ≡ told (record { «main_data_begin» = fieldAt s at (l .«main_data_begin»); scfsi = bits s (at + l .prefix) (l .shares) ++ replicate (8 - l .shares) false; slots = slots })
+    pub side-told : {l : Layout} → l ≡ layoutOf mpeg1 two
+        → Gives v slots (filled (l .slots) (recordsOf mpeg1 (l .slots) (bits s (at + l .prefix + l .shares) (l .slots * recordWidth mpeg1)))) → v ≡ Accepted
+        → sideIn mpeg1 two (bits s at (8 * sideBytes mpeg1 two))
+        ≡ told (record {
+          «main_data_begin» = fieldAt s at (l .«main_data_begin»);
+          scfsi = bits s (at + l .prefix) (l .shares)
+              ++ replicate (8 - l .shares) false;
+          slots = slots;
+        })
     unfolding sideIn
     side-told {l} e h f =
         side-all mpeg1 two b (recordsOf mpeg1 n (drop (p + m) b)) (given-told (given-there e h) f)
         ∙ (λ j. told (record { «main_data_begin» = begin-there j; scfsi = shares-there j ++ replicate (8 - m) false; slots = slots }))
-        ∙ ap (λ (k : Layout). told (record { «main_data_begin» = fieldAt s at (k .«main_data_begin»); scfsi = bits s (at + k .prefix) (k .shares) ++ replicate (8 - k .shares) false; slots = slots })) (sym e)
+        ∙ ap (λ (k : Layout). told
+        (record {
+          «main_data_begin» = fieldAt s at (k .«main_data_begin»);
+          scfsi = bits s (at + k .prefix) (k .shares)
+              ++ replicate (8 - k .shares) false;
+          slots = slots;
+        })) (sym e)
 
 -- ---- from the frame's bytes
 module _ (mpeg1 two : Bool) (from : ℕ) (s : List ℕ) {l : Layout} (e : l ≡ layoutOf mpeg1 two) where
@@ -111,6 +143,7 @@ module _ (h : FrameHeader) (s : List ℕ) {b : Bool} (e : b ≡ isHeader h) wher
   unfolding sideOf
   side-made-up f = passed _ (sym e ∙ f)
 
-  pub side-under : {from : ℕ} {mpeg1 two : Bool} → b ≡ true → from ≡ headerSize h → mpeg1 ≡ isMpeg1 (h .version) → two ≡ isTwo (h .channels) → sideOf h s ≡ sideFrom mpeg1 two from s
+  pub side-under : {from : ℕ} {mpeg1 two : Bool} → b ≡ true → from ≡ headerSize h → mpeg1 ≡ isMpeg1 (h .version) → two ≡ isTwo (h .channels)
+      → sideOf h s ≡ sideFrom mpeg1 two from s
   unfolding sideOf
   side-under f p q r = picked _ (sym e ∙ f) ∙ (λ j. sideFrom (sym q j) (sym r j) (sym p j) s)

@@ -136,7 +136,8 @@ value-shift [] a = simp mul-one (omega arith)
 value-shift (x ∷ y) a =
     let p = 2 ^ length y in
     value-shift y (2 * a + one x)
-    ∙ ap (λ (n : ℕ). n + valueFrom 0 y) (add-mul (2 * a) (one x) p ∙ ap (λ (n : ℕ). n + one x * p) (mul-assoc 2 a p ∙ mul-left-comm 2 a p ∙ ap (λ (n : ℕ). a * n) (sym (pow-succ' 2 (length y)))))
+    ∙ ap (λ (n : ℕ). n + valueFrom 0 y)
+    (add-mul (2 * a) (one x) p ∙ ap (λ (n : ℕ). n + one x * p) (mul-assoc 2 a p ∙ mul-left-comm 2 a p ∙ ap (λ (n : ℕ). a * n) (sym (pow-succ' 2 (length y)))))
     ∙ add-assoc (a * 2 ^ suc (length y)) (one x * p) (valueFrom 0 y)
     ∙ ap (λ (n : ℕ). a * 2 ^ suc (length y) + n) (sym (value-shift y (2 * 0 + one x) ∙ ap (λ (n : ℕ). n * p + valueFrom 0 y) zero-one))
   where
@@ -166,10 +167,13 @@ unfolding field
 field-value b k n m e =
     sym
     (ap (λ (v : ℕ). v / 2 ^ m % 2 ^ n)
-    (ap value (sym (take-append-drop k b) ∙ ap (λ (l : List Bool). take k b ++ l) (sym (take-append-drop n (drop k b))) ∙ sym (append-assoc (take k b) (take n (drop k b)) (drop n (drop k b))))
+    (ap value
+    (sym (take-append-drop k b) ∙ ap (λ (l : List Bool). take k b ++ l) (sym (take-append-drop n (drop k b)))
+    ∙ sym (append-assoc (take k b) (take n (drop k b)) (drop n (drop k b))))
     ∙ value-two (take k b ++ take n (drop k b)) (drop n (drop k b)) m rest-long
     ∙ ap (λ (v : ℕ). v * 2 ^ m + value (drop n (drop k b))) (value-two (take k b) (take n (drop k b)) n field-long))
-    ∙ cut-out (value (take k b)) (value (take n (drop k b))) (value (drop n (drop k b))) n m (value-below (take n (drop k b)) n field-long) (value-below (drop n (drop k b)) m rest-long))
+    ∙ cut-out (value (take k b)) (value (take n (drop k b))) (value (drop n (drop k b))) n m (value-below (take n (drop k b)) n field-long)
+    (value-below (drop n (drop k b)) m rest-long))
   where
     rest-long : length (drop n (drop k b)) ≡ m
     rest-long = simp length-drop (omega arith)
@@ -232,7 +236,8 @@ upper-part s i h (suc n) l =
     let k : n + 1 ≡ suc n = omega arith in
     let d : 8 - n ≡ suc (7 - n) = omega arith in
     let e : 8 - suc n ≡ 7 - n = omega arith in
-    let halves : x / 2 ^ (8 - n) ≡ x / 2 ^ (7 - n) / 2 = ap (λ (m : ℕ). x / 2 ^ m) d ∙ ap (λ (m : ℕ). x / m) (pow-succ' 2 (7 - n) ∙ mul-comm 2 (2 ^ (7 - n))) ∙ sym (div-div-eq-div-mul x (2 ^ (7 - n)) 2) in
+    let halves : x / 2 ^ (8 - n) ≡ x / 2 ^ (7 - n) / 2 = ap (λ (m : ℕ). x / 2 ^ m) d ∙ ap (λ (m : ℕ). x / m) (pow-succ' 2 (7 - n) ∙ mul-comm 2 (2 ^ (7 - n)))
+    ∙ sym (div-div-eq-div-mul x (2 ^ (7 - n)) 2) in
     let low : one (bitAt s (8 * i + n)) ≡ x / 2 ^ (7 - n) % 2 = byte-bit s i n (8 * i + n) (omega arith) refl in
     let first = upper-part s i h n (omega arith) in
     ap (λ (m : ℕ). value (bits s (8 * i) m)) (sym k)

@@ -55,7 +55,8 @@ pub paste-next : {A : Type 0} (src old next : List A) (at a m : ℕ) → at + a 
     → paste (paste old at src a) (at + a) next m ≡ paste old at src (a + m)
 paste-next {A = A} src old next at a m h l e =
     (λ j. (take-paste old at src a (omega arith) l j ++ e j) ++ beyond j)
-    ∙ ap (λ (x : List A). x ++ drop (at + (a + m)) old) (append-assoc (take at old) (take a src) (take m (drop a src)) ∙ ap (λ (x : List A). take at old ++ x) (sym (take-add a m src)))
+    ∙ ap (λ (x : List A). x ++ drop (at + (a + m)) old)
+    (append-assoc (take at old) (take a src) (take m (drop a src)) ∙ ap (λ (x : List A). take at old ++ x) (sym (take-add a m src)))
   where
     beyond : drop (at + a + m) (paste old at src a) ≡ drop (at + (a + m)) old
     beyond =

@@ -79,7 +79,8 @@ factors-take [] old b = refl
 factors-take (x ∷ ps) old b =
     let own = take (widthOf x + planBits ps) b in
     factors-cons x ps old b
-    ∙ (λ j. factor-take x (getD old 0 0) (planBits ps) b j ∷ (factors-take ps (drop 1 old) (drop (widthOf x) b) ∙ ap (factorsFrom ps (drop 1 old)) (sym (drop-take (widthOf x) (planBits ps) b))) j)
+    ∙ (λ j. factor-take x (getD old 0 0) (planBits ps) b j ∷
+    (factors-take ps (drop 1 old) (drop (widthOf x) b) ∙ ap (factorsFrom ps (drop 1 old)) (sym (drop-take (widthOf x) (planBits ps) b))) j)
     ∙ sym (factors-cons x ps old own)
     ∙ ap (λ (n : ℕ). factorsFrom (x ∷ ps) old (take n b)) (sym (plan-bits-cons x ps))
 
@@ -147,13 +148,15 @@ ordinary-small : (c : ℕ) → c < 512 → Small (ordinaryLengths c)
 unfolding ordinaryLengths
 ordinary-small c h =
     by-test Small c 400 (λ l. small-four (omega arith) (omega arith) (omega arith) (omega arith))
-    (λ l. by-test Small c 500 (λ m. small-four (omega arith) (omega arith) (omega arith) (omega arith)) (λ m. small-four (omega arith) (omega arith) (omega arith) (omega arith)))
+    (λ l. by-test Small c 500 (λ m. small-four (omega arith) (omega arith) (omega arith) (omega arith))
+    (λ m. small-four (omega arith) (omega arith) (omega arith) (omega arith)))
 
 intensity-small : (c : ℕ) → c < 256 → Small (intensityLengths c)
 unfolding intensityLengths
 intensity-small c h =
     by-test Small c 180 (λ l. small-four (omega arith) (omega arith) (omega arith) (omega arith))
-    (λ l. by-test Small c 244 (λ m. small-four (omega arith) (omega arith) (omega arith) (omega arith)) (λ m. small-four (omega arith) (omega arith) (omega arith) (omega arith)))
+    (λ l. by-test Small c 244 (λ m. small-four (omega arith) (omega arith) (omega arith) (omega arith))
+    (λ m. small-four (omega arith) (omega arith) (omega arith) (omega arith)))
 
 pub lengths-small : (mpeg1 intensity : Bool) (shares : List Bool) (k : Shape) (c g : ℕ) → getD (planBy mpeg1 intensity shares k c .lengths) g 0 ≤ 5
 unfolding planBy lowLengths
@@ -190,8 +193,15 @@ pub groups-small : (p : Plan) → ((g : ℕ) → getD (p .lengths) g 0 ≤ 5) �
 unfolding groupsFrom planBits
 groups-small p h g zero = omega arith
 groups-small p h g (suc k) =
-    omega
-    (arith, plan-bits-append (group p g) (groupsFrom p (suc g) k), length-append (group p g) (groupsFrom p (suc g) k), group-length p g, group-small p g (h g), groups-small p h (suc g) k)
+    omega (
+      arith,
+      plan-bits-append (group p g) (groupsFrom p (suc g) k),
+      length-append (group p g) (groupsFrom p (suc g) k),
+      group-length p g,
+      group-small p g
+          (h g),
+      groups-small p h (suc g) k,
+    )
 
 pub plan-small : (g : Setting) (r : SlotRecord) → planBits (sourcesOf (planOf g r)) ≤ 180
 unfolding planOf
@@ -227,7 +237,8 @@ groups-unshared p h g (suc k) old old′ b =
     ∙ sym (factors-append own rest old′ b)
 
 -- only long bands share, and only by a bit in force
-pub shape-unshares : (mpeg1 intensity : Bool) (shares : List Bool) (k : Shape) (c : ℕ) → mayShare k ≡ false → (g : ℕ) → getD (planBy mpeg1 intensity shares k c .shares) g false ≡ false
+pub shape-unshares : (mpeg1 intensity : Bool) (shares : List Bool) (k : Shape) (c : ℕ) → mayShare k ≡ false → (g : ℕ)
+    → getD (planBy mpeg1 intensity shares k c .shares) g false ≡ false
 unfolding planBy
 shape-unshares true intensity shares AllLong c e = never (sym e)
 shape-unshares true intensity shares AllShort c e = none-shared 4
@@ -237,7 +248,8 @@ pub shape-unshared : (g : Setting) (r : SlotRecord) → mayShare (shapeOf r) ≡
 unfolding planOf
 shape-unshared g r e = groups-unshared (planOf g r) (shape-unshares (g .mpeg1) (g .intensity) (g .shares) (shapeOf r) (r .«scalefac_compress») e) 0 4
 
-pub none-unshares : (mpeg1 intensity : Bool) (shares : List Bool) (k : Shape) (c : ℕ) → ((g : ℕ) → getD shares g false ≡ false) → (g : ℕ) → getD (planBy mpeg1 intensity shares k c .shares) g false ≡ false
+pub none-unshares : (mpeg1 intensity : Bool) (shares : List Bool) (k : Shape) (c : ℕ) → ((g : ℕ) → getD shares g false ≡ false) → (g : ℕ)
+    → getD (planBy mpeg1 intensity shares k c .shares) g false ≡ false
 unfolding planBy
 none-unshares true intensity shares AllLong c h = h
 none-unshares true intensity shares AllShort c h = none-shared 4
@@ -248,7 +260,8 @@ unfolding planOf
 unshared-plan g r h = groups-unshared (planOf g r) (none-unshares (g .mpeg1) (g .intensity) (g .shares) (shapeOf r) (r .«scalefac_compress») h) 0 4
 
 -- ---- short factors are 39, in bands of three
-pub plan-factors-length : (g : Setting) (r : SlotRecord) (old : List ℕ) (b : List Bool) → length (factorsFrom (sourcesOf (planOf g r)) old b) ≡ factorCount (g .mpeg1) (shapeOf r)
+pub plan-factors-length : (g : Setting) (r : SlotRecord) (old : List ℕ) (b : List Bool)
+    → length (factorsFrom (sourcesOf (planOf g r)) old b) ≡ factorCount (g .mpeg1) (shapeOf r)
 plan-factors-length g r old b = factors-length (sourcesOf (planOf g r)) old b ∙ plan-length g r
 
 -- no slot has more than 21 long ones, and the short ones end before the last band

@@ -135,7 +135,8 @@ module _ {lent left : List ℕ} {old : Reservoir} {a : ReservoirAnswer} where
           slots = (w .4) ∙ z .slots ∙ ap (λ (c : Told (List Outcome)). slotsTold (toldOr [] c)) said ∙ sym (ap (λ (x : Step). slotsTold (x .slots)) e);
           reservoir = w .5 ∙ u .reservoir ∙ sym (ap (λ (x : Step). reservoirAfter old (x .kept)) e);
           bytes = u .bytes ∙ sym (ap (λ (x : Step). bytesAfter lent (x .kept)) e);
-          numbers-are = z .numbers ∙ ap (λ (c : Told (List Outcome)). numbersFrom 0 (toldOr [] c) d) said ∙ sym (ap (λ (x : Step). numbersFrom 0 (x .slots) d) e);
+          numbers-are =
+              z .numbers ∙ ap (λ (c : Told (List Outcome)). numbersFrom 0 (toldOr [] c) d) said ∙ sym (ap (λ (x : Step). numbersFrom 0 (x .slots) d) e);
         }
 
 -- ---- one answer and one state

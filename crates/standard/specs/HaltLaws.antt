@@ -114,7 +114,8 @@ module _ (ok : Refusal → Bool) (word : Reader) (allows : Allows ok word) where
   unfolding pairs pairOf ok-numbers
   pairs-ok table k zero b = refl
   pairs-ok table k (suc n) b =
-      then-pairs (pairOf word (table (2 * k)) b) _ (word-ok _ b (word (table (2 * k)) b) (allows .alien (table (2 * k)) b)) (λ u. pairs-ok table (suc k) n (drop u b))
+      then-pairs (pairOf word (table (2 * k)) b) _ (word-ok _ b (word (table (2 * k)) b) (allows .alien (table (2 * k)) b))
+      (λ u. pairs-ok table (suc k) n (drop u b))
 
   then-quads : (q : Quad) (rest : ℕ → Numbers) → ok-quad q ≡ true → ((u : ℕ) → ok-numbers (rest u) ≡ true) → ok-numbers (thenQuads q rest) ≡ true
   unfolding thenQuads ok-numbers ok-quad

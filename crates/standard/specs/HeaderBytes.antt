@@ -175,7 +175,8 @@ module _ (h : FrameHeader) (known : isHeader h ≡ true) where
   rate-place : (getD (rates (h .version)) (rateIn h) Hz8000 ≡ h .rate) × (rateIn h < 3)
   unfolding isHeader
   rate-place =
-      let w = place-at sameRate same-rate Hz8000 (h .rate) (rates (h .version)) (both-of (member sameBitrate (h .bitrate) (bitrates (h .version))) _ known .1) in
+      let w = place-at sameRate same-rate Hz8000 (h .rate) (rates (h .version))
+      (both-of (member sameBitrate (h .bitrate) (bitrates (h .version))) _ known .1) in
       (w .0, rw (rate-count (h .version)) at (w .1))
 
   second-is : (second h / 8 % 4 ≡ versionBits (h .version)) × (second h / 2 % 4 ≡ 1) × (second h % 2 ≡ one (not (h .crc))) × (224 ≤ second h) × (second h < 256)
@@ -186,7 +187,8 @@ module _ (h : FrameHeader) (known : isHeader h ≡ true) where
   unfolding third
   third-is = let v = bitrate-place .1 in let w = rate-place .1 in let b = one-le (h .padding) in (omega arith, omega arith, omega arith, omega arith)
 
-  fourth-is : (fourth h / 64 ≡ mode (h .channels)) × (fourth h / 32 % 2 ≡ midSide (h .channels)) × (fourth h / 16 % 2 ≡ intensity (h .channels)) × (fourth h / 8 % 2 ≡ one (h .copyright)) × (fourth h / 4 % 2 ≡ one (h .original)) × (fourth h % 4 ≡ emphasisBits (h .emphasis)) × (fourth h < 256)
+  fourth-is : (fourth h / 64 ≡ mode (h .channels)) × (fourth h / 32 % 2 ≡ midSide (h .channels)) × (fourth h / 16 % 2 ≡ intensity (h .channels))
+      × (fourth h / 8 % 2 ≡ one (h .copyright)) × (fourth h / 4 % 2 ≡ one (h .original)) × (fourth h % 4 ≡ emphasisBits (h .emphasis)) × (fourth h < 256)
   unfolding fourth
   fourth-is =
       let m = mode-le (h .channels) in
@@ -228,9 +230,12 @@ module _ (h : FrameHeader) (known : isHeader h ≡ true) where
       ∙ (passed _ (ap (λ (n : ℕ). not (eqb n 1)) (second-is .1))
       ∙ (passed _ (header-there h rest 3 (omega arith))
       ∙ (passed _ (ne-eqb (third h / 16) 0 (λ e. omega (arith, third-is)))
-      ∙ (passed _ (neither (ne-eqb (third h / 16) 15 (λ e. omega (arith, bitrate-place, third-is))) (ne-eqb (third h / 4 % 4) 3 (λ e. omega (arith, rate-place, third-is))))
+      ∙ (passed _
+      (neither (ne-eqb (third h / 16) 15 (λ e. omega (arith, bitrate-place, third-is))) (ne-eqb (third h / 4 % 4) 3 (λ e. omega (arith, rate-place, third-is))))
       ∙ (passed _ (ap (λ (n : ℕ). eqb n 2) (fourth-is .5) ∙ emphasis-ok (h .emphasis))
-      ∙ (passed _ (ap (λ (b : Bool). b && leb (length (headerBytes h ++ rest)) 5) (ap (λ (n : ℕ). eqb n 0) (second-is .2) ∙ one-not (h .crc)) ∙ crc-there (h .crc) (length (headerBytes h ++ rest)) (simp length-append (omega (arith, crc-length (h .crc)))))
+      ∙ (passed _
+      (ap (λ (b : Bool). b && leb (length (headerBytes h ++ rest)) 5) (ap (λ (n : ℕ). eqb n 0) (second-is .2) ∙ one-not (h .crc))
+      ∙ crc-there (h .crc) (length (headerBytes h ++ rest)) (simp length-append (omega (arith, crc-length (h .crc)))))
       ∙ ap told fields-back)))))))))))
 
   pub bytes-header : Bytes (headerBytes h)

@@ -29,7 +29,8 @@ use Rattle.standard.specs.declared.SideInfo.{SideInfo}
 -- ---- all bitrates and all rates, each found again by its number
 bitrateAll : List BitRate
 bitrateAll =
-    Kbps8 ∷ Kbps16 ∷ Kbps24 ∷ Kbps32 ∷ Kbps40 ∷ Kbps48 ∷ Kbps56 ∷ Kbps64 ∷ Kbps80 ∷ Kbps96 ∷ Kbps112 ∷ Kbps128 ∷ Kbps144 ∷ Kbps160 ∷ Kbps192 ∷ Kbps224 ∷ Kbps256 ∷ Kbps320 ∷ []
+    Kbps8 ∷ Kbps16 ∷ Kbps24 ∷ Kbps32 ∷ Kbps40 ∷ Kbps48 ∷ Kbps56 ∷ Kbps64 ∷ Kbps80 ∷ Kbps96 ∷ Kbps112 ∷
+    Kbps128 ∷ Kbps144 ∷ Kbps160 ∷ Kbps192 ∷ Kbps224 ∷ Kbps256 ∷ Kbps320 ∷ []
 
 rateAll : List SampleRate
 rateAll = Hz8000 ∷ Hz11025 ∷ Hz12000 ∷ Hz16000 ∷ Hz22050 ∷ Hz24000 ∷ Hz32000 ∷ Hz44100 ∷ Hz48000 ∷ []
@@ -93,11 +94,13 @@ rate-self x = eq-eqb (hz x) (hz x) refl
 -- ---- a test that all pass is passed by each
 every-bitrate : (p : BitRate → Bool) → every p bitrateAll ≡ true → (b : BitRate) → p b ≡ true
 unfolding every bitrateAll bitrateFrom
-every-bitrate p e b = subst (λ (x : BitRate). p x ≡ true) (bitrate-back b) (every-at p Kbps8 bitrateAll (both-of (p Kbps8) _ e .0) e (place eqb (bps b) (map bps bitrateAll)))
+every-bitrate p e b =
+    subst (λ (x : BitRate). p x ≡ true) (bitrate-back b) (every-at p Kbps8 bitrateAll (both-of (p Kbps8) _ e .0) e (place eqb (bps b) (map bps bitrateAll)))
 
 every-rate : (p : SampleRate → Bool) → every p rateAll ≡ true → (r : SampleRate) → p r ≡ true
 unfolding every rateAll rateFrom
-every-rate p e r = subst (λ (x : SampleRate). p x ≡ true) (rate-back r) (every-at p Hz8000 rateAll (both-of (p Hz8000) _ e .0) e (place eqb (hz r) (map hz rateAll)))
+every-rate p e r =
+    subst (λ (x : SampleRate). p x ≡ true) (rate-back r) (every-at p Hz8000 rateAll (both-of (p Hz8000) _ e .0) e (place eqb (hz r) (map hz rateAll)))
 
 -- ---- the rows have one length in every version
 pub bitrate-count : (v : MpegVersion) → length (bitrates v) ≡ 14
@@ -144,7 +147,8 @@ own-test Mpeg1 = refl
 own-test Mpeg2 = refl
 own-test Mpeg25 = refl
 
-own-size : (h : FrameHeader) → isHeader h ≡ true → (least (h .version) ≤ bytesIn (h .version) (h .bitrate) (h .rate)) × (bytesIn (h .version) (h .bitrate) (h .rate) ≤ 1440)
+own-size : (h : FrameHeader) → isHeader h ≡ true → (least (h .version) ≤ bytesIn (h .version) (h .bitrate) (h .rate))
+    × (bytesIn (h .version) (h .bitrate) (h .rate) ≤ 1440)
 unfolding isHeader
 own-size h e =
     let v = h .version in

@@ -30,7 +30,8 @@ as-mpeg2 f s Mpeg25 e = s
 abbrev pub between : ℕ → ℕ → ℕ → Bool
 between n least most = leb least n && leb n most
 
-pub bitrate-rows : (b : BitRate) → (member sameBitrate b (bitrates Mpeg1) ≡ between (bps b) 32000 320000 && not (eqb (bps b) 144000)) × (member sameBitrate b (bitrates Mpeg2) ≡ between (bps b) 8000 160000)
+pub bitrate-rows : (b : BitRate) → (member sameBitrate b (bitrates Mpeg1) ≡ between (bps b) 32000 320000 && not (eqb (bps b) 144000))
+    × (member sameBitrate b (bitrates Mpeg2) ≡ between (bps b) 8000 160000)
 unfolding member sameBitrate bitrates
 bitrate-rows Kbps8 = (refl, refl)
 bitrate-rows Kbps16 = (refl, refl)
@@ -51,7 +52,8 @@ bitrate-rows Kbps224 = (refl, refl)
 bitrate-rows Kbps256 = (refl, refl)
 bitrate-rows Kbps320 = (refl, refl)
 
-pub rate-rows : (f : SampleRate) → (member sameRate f (rates Mpeg1) ≡ between (hz f) 32000 48000) × (member sameRate f (rates Mpeg2) ≡ between (hz f) 16000 24000) × (member sameRate f (rates Mpeg25) ≡ between (hz f) 8000 12000)
+pub rate-rows : (f : SampleRate) → (member sameRate f (rates Mpeg1) ≡ between (hz f) 32000 48000)
+    × (member sameRate f (rates Mpeg2) ≡ between (hz f) 16000 24000) × (member sameRate f (rates Mpeg25) ≡ between (hz f) 8000 12000)
 unfolding member sameRate rates
 rate-rows Hz8000 = (refl, refl, refl)
 rate-rows Hz11025 = (refl, refl, refl)

@@ -286,7 +286,8 @@ abbrev pub Gives : (ℕ → Type 0) → Numbers → Type 0
 Gives P (halted r) = Unit {0}
 Gives P (got vs b) = Bounded P vs
 
-gives-after : (P Q : ℕ → Type 0) (vs : List ℤ) → every small vs ≡ true → ((n : ℕ) → P n → Q (length vs + n)) → (q : Numbers) → Gives P q → Gives Q (prepend vs q)
+gives-after : (P Q : ℕ → Type 0) (vs : List ℤ) → every small vs ≡ true → ((n : ℕ) → P n → Q (length vs + n)) → (q : Numbers) → Gives P q
+    → Gives Q (prepend vs q)
 unfolding prepend
 gives-after P Q vs s f (halted r) g = tt
 gives-after P Q vs s f (got ws b) g = record {
@@ -303,7 +304,8 @@ then-pairs : (n l : ℕ) (rest : ℕ → Numbers) → ((u : ℕ) → Gives (Exac
 unfolding thenPairs every
 then-pairs n l rest f (NoPair r) g = tt
 then-pairs n l rest f (Two x y u) g =
-    gives-after (Exactly (2 * n)) (Exactly (2 * suc n)) (x ∷ y ∷ []) (both (is-small x (g .0)) (both (is-small y (g .1)) refl)) (λ k e. omega arith) (rest u) (f u)
+    gives-after (Exactly (2 * n)) (Exactly (2 * suc n)) (x ∷ y ∷ []) (both (is-small x (g .0)) (both (is-small y (g .1)) refl)) (λ k e. omega arith) (rest u)
+    (f u)
 
 then-quads : (n l : ℕ) (rest : ℕ → Numbers) → ((u : ℕ) → Gives (AtMost (4 * n)) (rest u))
     → (q : Quad) → QuadFits l q → Gives (AtMost (4 * suc n)) (thenQuads q rest)
@@ -327,14 +329,16 @@ module _ (word : Reader) (fits : ReaderFits word) where
   quads-bounded t zero b = record { count = omega arith; sizes = refl }
   quads-bounded t (suc n) [] = record { count = omega arith; sizes = refl }
   quads-bounded t (suc n) (x ∷ b) =
-      then-quads n (length (x ∷ b)) (λ (u : ℕ). quads word t n (drop u (x ∷ b))) (λ u. quads-bounded t n (drop u (x ∷ b))) (quadOf word t (x ∷ b)) (quad-fits word fits t (x ∷ b))
+      then-quads n (length (x ∷ b)) (λ (u : ℕ). quads word t n (drop u (x ∷ b))) (λ u. quads-bounded t n (drop u (x ∷ b))) (quadOf word t (x ∷ b))
+      (quad-fits word fits t (x ∷ b))
 
   then-rest : (t n : ℕ) → n ≤ 288 → (q : Numbers) → Gives (Exactly (2 * n)) q → Gives (AtMost 576) (thenRest word t n q)
   unfolding thenRest
   then-rest t n h (halted r) g = tt
   then-rest t n h (got vs b) g =
       let e = g .count in
-      gives-after (AtMost (4 * ((576 - 2 * n) / 4))) (AtMost 576) vs (g .sizes) (λ k l. omega arith) (quads word t ((576 - 2 * n) / 4) b) (quads-bounded t ((576 - 2 * n) / 4) b)
+      gives-after (AtMost (4 * ((576 - 2 * n) / 4))) (AtMost 576) vs (g .sizes) (λ k l. omega arith) (quads word t ((576 - 2 * n) / 4) b)
+      (quads-bounded t ((576 - 2 * n) / 4) b)
 
   numbers-by : (r : SlotRecord) → r .«big_values» ≤ 288 → (g : Regions) (b : List Bool) → Gives (AtMost 576) (numbersBy word r g b)
   unfolding numbersBy

@@ -221,7 +221,8 @@ isPreflag false r = Bool·beq (r .preflag) (leb 500 (r .«scalefac_compress»))
 
 unfoldable pub isHead : Bool → SlotRecord → Bool
 isHead mpeg1 r =
-    ltb (r .«part2_3_length») 4096 && leb (r .«big_values») mostBigValues && (ltb (r .«global_gain») 256 && ltb (r .«scalefac_compress») (2 ^ compressWidth mpeg1))
+    ltb (r .«part2_3_length») 4096 && leb (r .«big_values») mostBigValues &&
+    (ltb (r .«global_gain») 256 && ltb (r .«scalefac_compress») (2 ^ compressWidth mpeg1))
     && isPreflag mpeg1 r
 
 unfoldable pub isRecord : Bool → SlotRecord → Bool

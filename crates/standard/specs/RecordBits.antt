@@ -61,7 +61,8 @@ gain-back g e =
 pub no-gain : gainBelow 1 (gainOf 0) ≡ true
 unfolding gainNumber place later gainsRow
 no-gain =
-    ap (λ (b : Bool). ltb (later b (place sameFloat (gainOf 0) (gainOf 1 ∷ gainOf 2 ∷ gainOf 3 ∷ gainOf 4 ∷ gainOf 5 ∷ gainOf 6 ∷ gainOf 7 ∷ []))) 1) (float-self (gainOf 0))
+    ap (λ (b : Bool). ltb (later b (place sameFloat (gainOf 0) (gainOf 1 ∷ gainOf 2 ∷ gainOf 3 ∷ gainOf 4 ∷ gainOf 5 ∷ gainOf 6 ∷ gainOf 7 ∷ []))) 1)
+    (float-self (gainOf 0))
 
 pub no-gain-is : (g : Float) → gainBelow 1 g ≡ true → gainOf 0 ≡ g
 no-gain-is g e =
@@ -73,7 +74,8 @@ pub no-table-is : (n : ℕ) → below 1 n ≡ true → 0 ≡ n
 no-table-is n e = let h : n < 1 = ltb-true n 1 e in omega arith
 
 -- ---- a list of three
-pub trio-is : {A : Type 0} (p q r : A → Bool) (d : A) (l : List A) → trio p q r l ≡ true → (getD l 0 d ∷ getD l 1 d ∷ getD l 2 d ∷ [] ≡ l) × (p (getD l 0 d) ≡ true) × (q (getD l 1 d) ≡ true) × (r (getD l 2 d) ≡ true)
+pub trio-is : {A : Type 0} (p q r : A → Bool) (d : A) (l : List A) → trio p q r l ≡ true → (getD l 0 d ∷ getD l 1 d ∷ getD l 2 d ∷ [] ≡ l)
+    × (p (getD l 0 d) ≡ true) × (q (getD l 1 d) ≡ true) × (r (getD l 2 d) ≡ true)
 unfolding trio
 trio-is p q r d [] e = never e
 trio-is p q r d (x ∷ []) e = never e
@@ -139,7 +141,8 @@ longParts r =
 abbrev switchedParts : SlotRecord → List Part
 switchedParts r =
     (1 in-bits 1) ∷ (typeOf (r .«block_type») in-bits 2) ∷ (0 in-bits 1) ∷ (getD (r .«table_select») 0 0 in-bits 5) ∷ (getD (r .«table_select») 1 0 in-bits 5)
-    ∷ (gainNumber (getD (r .«subblock_gain») 0 nan) in-bits 3) ∷ (gainNumber (getD (r .«subblock_gain») 1 nan) in-bits 3) ∷ (gainNumber (getD (r .«subblock_gain») 2 nan) in-bits 3) ∷ []
+    ∷ (gainNumber (getD (r .«subblock_gain») 0 nan) in-bits 3) ∷ (gainNumber (getD (r .«subblock_gain») 1 nan) in-bits 3) ∷
+    (gainNumber (getD (r .«subblock_gain») 2 nan) in-bits 3) ∷ []
 
 abbrev partsBy : Bool → Bool → SlotRecord → List Part
 partsBy long mpeg1 r =
@@ -165,7 +168,8 @@ abbrev _and_ : Type 0 → Type 0 → Type 0
 A and B = A × B
 
 abbrev LastAt : Bool → SlotRecord → List Bool → Type 0
-LastAt true r b = (field b 56 1 ≡ one (r .preflag)) and (field b 57 1 ≡ one (r .«scalefac_scale»)) and (field b 58 1 ≡ one (r .«count1table_select»)) and Unit {0}
+LastAt true r b =
+    (field b 56 1 ≡ one (r .preflag)) and (field b 57 1 ≡ one (r .«scalefac_scale»)) and (field b 58 1 ≡ one (r .«count1table_select»)) and Unit {0}
 LastAt false r b = (field b 61 1 ≡ one (r .«scalefac_scale»)) and (field b 62 1 ≡ one (r .«count1table_select»)) and Unit {0}
 
 abbrev BodyAt : Bool → ℕ → SlotRecord → List Bool → Type 0 → Type 0
@@ -173,13 +177,15 @@ BodyAt true c r b Last =
     (field b (29 + c) 1 ≡ 0) and (field b (30 + c) 5 ≡ getD (r .«table_select») 0 0) and (field b (35 + c) 5 ≡ getD (r .«table_select») 1 0)
     and (field b (40 + c) 5 ≡ getD (r .«table_select») 2 0) and (field b (45 + c) 4 ≡ r .«region0_count») and (field b (49 + c) 3 ≡ r .«region1_count») and Last
 BodyAt false c r b Last =
-    (field b (29 + c) 1 ≡ 1) and (field b (30 + c) 2 ≡ typeOf (r .«block_type»)) and (field b (32 + c) 1 ≡ 0) and (field b (33 + c) 5 ≡ getD (r .«table_select») 0 0)
+    (field b (29 + c) 1 ≡ 1) and (field b (30 + c) 2 ≡ typeOf (r .«block_type»)) and (field b (32 + c) 1 ≡ 0) and
+    (field b (33 + c) 5 ≡ getD (r .«table_select») 0 0)
     and (field b (38 + c) 5 ≡ getD (r .«table_select») 1 0) and (field b (43 + c) 3 ≡ gainNumber (getD (r .«subblock_gain») 0 nan))
     and (field b (46 + c) 3 ≡ gainNumber (getD (r .«subblock_gain») 1 nan)) and (field b (49 + c) 3 ≡ gainNumber (getD (r .«subblock_gain») 2 nan)) and Last
 
 abbrev RecordAt : Bool → Bool → SlotRecord → List Bool → Type 0
 RecordAt long m r b =
-    (field b 0 12 ≡ r .«part2_3_length») and (field b 12 9 ≡ r .«big_values») and (field b 21 8 ≡ r .«global_gain») and (field b 29 (compressWidth m) ≡ r .«scalefac_compress»)
+    (field b 0 12 ≡ r .«part2_3_length») and (field b 12 9 ≡ r .«big_values») and (field b 21 8 ≡ r .«global_gain») and
+    (field b 29 (compressWidth m) ≡ r .«scalefac_compress»)
     and BodyAt long (compressWidth m) r b (LastAt m r b)
 
 record-at : (long mpeg1 : Bool) (r : SlotRecord) (b : List Bool) → Stand b 0 (partsBy long mpeg1 r) → RecordAt long mpeg1 r b
@@ -190,7 +196,8 @@ record-at false true r b e = e
 record-at false false r b e = e
 
 -- ---- what the checks say
-head-is : (mpeg1 : Bool) (r : SlotRecord) → isHead mpeg1 r ≡ true → (r .«part2_3_length» < 4096) × (r .«big_values» ≤ 288) × (r .«global_gain» < 256) × (r .«scalefac_compress» < 2 ^ compressWidth mpeg1) × (isPreflag mpeg1 r ≡ true)
+head-is : (mpeg1 : Bool) (r : SlotRecord) → isHead mpeg1 r ≡ true → (r .«part2_3_length» < 4096) × (r .«big_values» ≤ 288) × (r .«global_gain» < 256)
+    × (r .«scalefac_compress» < 2 ^ compressWidth mpeg1) × (isPreflag mpeg1 r ≡ true)
 unfolding isHead
 head-is mpeg1 r e =
     let p = both-of _ (isPreflag mpeg1 r) e in
@@ -206,10 +213,12 @@ flag-is b at x e = ap (λ (n : ℕ). eqb n 1) e ∙ one-is x
 one-lt : (x : Bool) → one x < 2
 one-lt x = omega (arith, one-le x)
 
-last-from : (mpeg1 : Bool) (r : SlotRecord) (b : List Bool) → isPreflag mpeg1 r ≡ true → field b 29 (compressWidth mpeg1) ≡ r .«scalefac_compress» → LastAt mpeg1 r b → (preflagOf mpeg1 b ≡ r .preflag) × (flag b (scaleAt mpeg1) ≡ r .«scalefac_scale») × (flag b (count1At mpeg1) ≡ r .«count1table_select»)
+last-from : (mpeg1 : Bool) (r : SlotRecord) (b : List Bool) → isPreflag mpeg1 r ≡ true → field b 29 (compressWidth mpeg1) ≡ r .«scalefac_compress»
+    → LastAt mpeg1 r b → (preflagOf mpeg1 b ≡ r .preflag) × (flag b (scaleAt mpeg1) ≡ r .«scalefac_scale») × (flag b (count1At mpeg1) ≡ r .«count1table_select»)
 unfolding preflagOf isPreflag
 last-from true r b h c (p, (s, (t, u))) = (flag-is b 56 (r .preflag) p, flag-is b 57 (r .«scalefac_scale») s, flag-is b 58 (r .«count1table_select») t)
-last-from false r b h c (s, (t, u)) = (ap (leb 500) c ∙ sym (beq-is (r .preflag) _ h), flag-is b 61 (r .«scalefac_scale») s, flag-is b 62 (r .«count1table_select») t)
+last-from false r b h c (s, (t, u)) =
+    (ap (leb 500) c ∙ sym (beq-is (r .preflag) _ h), flag-is b 61 (r .«scalefac_scale») s, flag-is b 62 (r .«count1table_select») t)
 
 -- written, the parts fit their bits
 parts-fit : (long mpeg1 : Bool) (r : SlotRecord) → isHead mpeg1 r ≡ true → Fit (pick long (longParts r) (switchedParts r)) → Fit (partsBy long mpeg1 r)
@@ -223,10 +232,12 @@ parts-fit long mpeg1 r h f =
 
 -- ---- a record that is not switched
 module _ (r : SlotRecord) (t : isLong (r .«block_type») ≡ true) (body : isLongBody r ≡ true) where
-  long-body : (trio (below 32) (below 32) (below 32) (r .«table_select») ≡ true) × (trio (gainBelow 1) (gainBelow 1) (gainBelow 1) (r .«subblock_gain») ≡ true) × (r .«region0_count» < 16) × (r .«region1_count» < 8)
+  long-body : (trio (below 32) (below 32) (below 32) (r .«table_select») ≡ true)
+      × (trio (gainBelow 1) (gainBelow 1) (gainBelow 1) (r .«subblock_gain») ≡ true) × (r .«region0_count» < 16) × (r .«region1_count» < 8)
   unfolding isLongBody
   long-body =
-      let p = both-of (trio (below 32) (below 32) (below 32) (r .«table_select») && trio (gainBelow 1) (gainBelow 1) (gainBelow 1) (r .«subblock_gain»)) _ body in
+      let p = both-of
+      (trio (below 32) (below 32) (below 32) (r .«table_select») && trio (gainBelow 1) (gainBelow 1) (gainBelow 1) (r .«subblock_gain»)) _ body in
       let q = both-of (trio (below 32) (below 32) (below 32) (r .«table_select»)) _ (p .0) in
       let u = both-of (ltb (r .«region0_count») 16) _ (p .1) in
       (q .0, q .1, ltb-true _ _ (u .0), ltb-true _ _ (u .1))
@@ -264,10 +275,13 @@ module _ (r : SlotRecord) (t : isLong (r .«block_type») ≡ true) (body : isLo
 
 -- ---- and one that is
 module _ (r : SlotRecord) (t : isLong (r .«block_type») ≡ false) (body : isSwitchedBody r ≡ true) where
-  switched-body : (trio (below 32) (below 32) (below 1) (r .«table_select») ≡ true) × (trio (gainBelow 8) (gainBelow 8) (gainBelow 8) (r .«subblock_gain») ≡ true) × (r .«region0_count» ≡ region0Of (shapeOf r)) × (r .«region1_count» ≡ region1Of (shapeOf r))
+  switched-body : (trio (below 32) (below 32) (below 1) (r .«table_select») ≡ true)
+      × (trio (gainBelow 8) (gainBelow 8) (gainBelow 8) (r .«subblock_gain») ≡ true) × (r .«region0_count» ≡ region0Of (shapeOf r))
+      × (r .«region1_count» ≡ region1Of (shapeOf r))
   unfolding isSwitchedBody
   switched-body =
-      let p = both-of (trio (below 32) (below 32) (below 1) (r .«table_select») && trio (gainBelow 8) (gainBelow 8) (gainBelow 8) (r .«subblock_gain»)) _ body in
+      let p = both-of
+      (trio (below 32) (below 32) (below 1) (r .«table_select») && trio (gainBelow 8) (gainBelow 8) (gainBelow 8) (r .«subblock_gain»)) _ body in
       let q = both-of (trio (below 32) (below 32) (below 1) (r .«table_select»)) _ (p .0) in
       let u = both-of (eqb (r .«region0_count») (region0Of (shapeOf r))) _ (p .1) in
       (q .0, q .1, eqb-true _ _ (u .0), eqb-true _ _ (u .1))
@@ -275,8 +289,13 @@ module _ (r : SlotRecord) (t : isLong (r .«block_type») ≡ false) (body : isS
   switched-fit : Fit (switchedParts r)
   switched-fit =
       let ts = trio-is (below 32) (below 32) (below 1) 0 (r .«table_select») (switched-body .0) in
-      let gs = trio-is (gainBelow 8) (gainBelow 8) (gainBelow 8) nan (r .«subblock_gain») (switched-body .1) in
-      (omega arith, (type-lt (r .«block_type»), (omega arith, (ltb-true _ _ (ts .1), (ltb-true _ _ (ts .2), (gain-back _ (gs .1) .1, (gain-back _ (gs .2) .1, (gain-back _ (gs .3) .1, tt))))))))
+      let gs = trio-is (gainBelow 8) (gainBelow 8) (gainBelow 8) nan (r .«subblock_gain») (switched-body .1) in (
+        omega arith,
+        (
+          type-lt (r .«block_type»),
+          (omega arith, (ltb-true _ _ (ts .1), (ltb-true _ _ (ts .2), (gain-back _ (gs .1) .1, (gain-back _ (gs .2) .1, (gain-back _ (gs .3) .1, tt)))))),
+        ),
+      )
 
   switched-from : (mpeg1 : Bool) (b : List Bool) → isHead mpeg1 r ≡ true → RecordAt false mpeg1 r b → recordOf mpeg1 b ≡ told r
   unfolding recordOf recordIn switchedOf
@@ -299,7 +318,8 @@ module _ (r : SlotRecord) (t : isLong (r .«block_type») ≡ false) (body : isS
         «global_gain» = gain-at j;
         «scalefac_compress» = compress-at j;
         «block_type» = block-at j;
-        «subblock_gain» = three (ap gainOf g0 ∙ gain-back _ (gs .1) .0) (ap gainOf g1 ∙ gain-back _ (gs .2) .0) (ap gainOf g2 ∙ gain-back _ (gs .3) .0) (gs .0) j;
+        «subblock_gain» =
+            three (ap gainOf g0 ∙ gain-back _ (gs .1) .0) (ap gainOf g1 ∙ gain-back _ (gs .2) .0) (ap gainOf g2 ∙ gain-back _ (gs .3) .0) (gs .0) j;
         «table_select» = three t0 t1 (no-table-is _ (ts .3)) (ts .0) j;
         «region0_count» = (ap (λ (u : BlockType). region0Of (shapeBy u)) block-at ∙ sym (switched-body .2)) j;
         «region1_count» = (ap (λ (u : BlockType). region1Of (shapeBy u)) block-at ∙ sym (switched-body .3)) j;
@@ -314,7 +334,8 @@ record-back mpeg1 r e =
     let p = both-of (isHead mpeg1 r) _ e in
     go (isLong (r .«block_type»)) refl (p .0) (p .1)
   where
-    go : (l : Bool) → isLong (r .«block_type») ≡ l → isHead mpeg1 r ≡ true → pick l (isLongBody r) (isSwitchedBody r) ≡ true → recordOf mpeg1 (write (partsBy l mpeg1 r)) ≡ told r
+    go : (l : Bool) → isLong (r .«block_type») ≡ l → isHead mpeg1 r ≡ true → pick l (isLongBody r) (isSwitchedBody r) ≡ true
+        → recordOf mpeg1 (write (partsBy l mpeg1 r)) ≡ told r
     go true t h b = long-from r t b mpeg1 _ h (record-at true mpeg1 r _ (stands-alone (partsBy true mpeg1 r) (parts-fit true mpeg1 r h (long-fit r t b))))
     go false t h b =
         switched-from r t b mpeg1 _ h (record-at false mpeg1 r _ (stands-alone (partsBy false mpeg1 r) (parts-fit false mpeg1 r h (switched-fit r t b))))
@@ -324,13 +345,16 @@ module _ (mpeg1 : Bool) (b : List Bool) (pairs-le : field b 12 9 ≤ 288) where
   preflag-known : (m : Bool) (r : SlotRecord) → r .«scalefac_compress» ≡ field b 29 (compressWidth m) → r .preflag ≡ preflagOf m b → isPreflag m r ≡ true
   unfolding isPreflag preflagOf
   preflag-known true r e f = refl
-  preflag-known false r e f = ap (λ (x : Bool). Bool·beq x (leb 500 (r .«scalefac_compress»))) (f ∙ ap (leb 500) (sym e)) ∙ beq-self (leb 500 (r .«scalefac_compress»))
+  preflag-known false r e f =
+      ap (λ (x : Bool). Bool·beq x (leb 500 (r .«scalefac_compress»))) (f ∙ ap (leb 500) (sym e)) ∙ beq-self (leb 500 (r .«scalefac_compress»))
 
-  head-known : (r : SlotRecord) → r .«part2_3_length» ≡ field b 0 12 → r .«big_values» ≡ field b 12 9 → r .«global_gain» ≡ field b 21 8 → r .«scalefac_compress» ≡ field b 29 (compressWidth mpeg1) → r .preflag ≡ preflagOf mpeg1 b → isHead mpeg1 r ≡ true
+  head-known : (r : SlotRecord) → r .«part2_3_length» ≡ field b 0 12 → r .«big_values» ≡ field b 12 9 → r .«global_gain» ≡ field b 21 8
+      → r .«scalefac_compress» ≡ field b 29 (compressWidth mpeg1) → r .preflag ≡ preflagOf mpeg1 b → isHead mpeg1 r ≡ true
   unfolding isHead
   head-known r e f g h k =
       both (both (both (lt-ltb (r .«part2_3_length») 4096 (rw e (field-lt b 0 12))) (le-leb (r .«big_values») 288 (rw f pairs-le)))
-      (both (lt-ltb (r .«global_gain») 256 (rw g (field-lt b 21 8))) (lt-ltb (r .«scalefac_compress») (2 ^ compressWidth mpeg1) (rw h (field-lt b 29 (compressWidth mpeg1))))))
+      (both (lt-ltb (r .«global_gain») 256 (rw g (field-lt b 21 8)))
+      (lt-ltb (r .«scalefac_compress») (2 ^ compressWidth mpeg1) (rw h (field-lt b 29 (compressWidth mpeg1))))))
       (preflag-known mpeg1 r h k)
 
   long-known : isRecord mpeg1 (longOf mpeg1 (compressWidth mpeg1) b) ≡ true
@@ -338,7 +362,9 @@ module _ (mpeg1 : Bool) (b : List Bool) (pairs-le : field b 12 9 ≤ 288) where
   long-known =
       let c = compressWidth mpeg1 in
       both (head-known (longOf mpeg1 c b) refl refl refl refl refl)
-      (both (both (trio-all (below 32) (below 32) (below 32) _ _ _ (lt-ltb _ 32 (field-lt b (30 + c) 5)) (lt-ltb _ 32 (field-lt b (35 + c) 5)) (lt-ltb _ 32 (field-lt b (40 + c) 5)))
+      (both (both
+      (trio-all (below 32) (below 32) (below 32) _ _ _ (lt-ltb _ 32 (field-lt b (30 + c) 5)) (lt-ltb _ 32 (field-lt b (35 + c) 5))
+      (lt-ltb _ 32 (field-lt b (40 + c) 5)))
       (trio-all (gainBelow 1) (gainBelow 1) (gainBelow 1) _ _ _ no-gain no-gain no-gain))
       (both (lt-ltb _ 16 (field-lt b (45 + c) 4)) (lt-ltb _ 8 (field-lt b (49 + c) 3))))
 
@@ -349,7 +375,8 @@ module _ (mpeg1 : Bool) (b : List Bool) (pairs-le : field b 12 9 ≤ 288) where
       both (head-known (switchedOf mpeg1 c t b) refl refl refl refl refl)
       (passed (isLongBody (switchedOf mpeg1 c t b)) h
       ∙ both (both (trio-all (below 32) (below 32) (below 1) _ _ _ (lt-ltb _ 32 (field-lt b (33 + c) 5)) (lt-ltb _ 32 (field-lt b (38 + c) 5)) refl)
-      (trio-all (gainBelow 8) (gainBelow 8) (gainBelow 8) _ _ _ (gain-known _ (field-lt b (43 + c) 3)) (gain-known _ (field-lt b (46 + c) 3)) (gain-known _ (field-lt b (49 + c) 3))))
+      (trio-all (gainBelow 8) (gainBelow 8) (gainBelow 8) _ _ _ (gain-known _ (field-lt b (43 + c) 3)) (gain-known _ (field-lt b (46 + c) 3))
+      (gain-known _ (field-lt b (49 + c) 3))))
       (both (eq-eqb (region0Of (shapeBy t)) (region0Of (shapeBy t)) refl) (eq-eqb (region1Of (shapeBy t)) (region1Of (shapeBy t)) refl)))
 
 block-switched : (n : ℕ) → n < 4 → (n ≡ 0 → ⊥) → isLong (blockOf n) ≡ false
@@ -366,7 +393,11 @@ record-known mpeg1 b r e0 =
     let p = no-refusal (ltb 288 (field b 12 9)) _ _ r e0 in
     go (ltb-false _ _ (p .0)) (not (flag b (29 + compressWidth mpeg1))) (p .1)
   where
-    go : field b 12 9 ≤ 288 → (l : Bool) → pick l (told (longOf mpeg1 (compressWidth mpeg1) b)) (pick (eqb (field b (30 + compressWidth mpeg1) 2) 0) (refused ForbiddenBlock) (pick (flag b (32 + compressWidth mpeg1)) (refused MixedBlock) (told (switchedOf mpeg1 (compressWidth mpeg1) (blockOf (field b (30 + compressWidth mpeg1) 2)) b)))) ≡ told r → isRecord mpeg1 r ≡ true
+    go : field b 12 9 ≤ 288 → (l : Bool)
+        → pick l (told (longOf mpeg1 (compressWidth mpeg1) b))
+        (pick (eqb (field b (30 + compressWidth mpeg1) 2) 0) (refused ForbiddenBlock)
+        (pick (flag b (32 + compressWidth mpeg1)) (refused MixedBlock)
+        (told (switchedOf mpeg1 (compressWidth mpeg1) (blockOf (field b (30 + compressWidth mpeg1) 2)) b)))) ≡ told r → isRecord mpeg1 r ≡ true
     go l true e = subst (λ (x : SlotRecord). isRecord mpeg1 x ≡ true) (told-is (sym (picked _ refl) ∙ e)) (long-known mpeg1 b l)
     go l false e =
         let c = compressWidth mpeg1 in
@@ -384,7 +415,8 @@ record-read mpeg1 r = (
 
 -- ---- the regions of a switched window: 8 and 12 of short bands, 7 and 13 of long ones
 pub switched-regions : (mpeg1 : Bool) (r : SlotRecord) → isRecord mpeg1 r ≡ true → isLong (r .«block_type») ≡ false
-    → (shapeOf r ≡ AllShort → (r .«region0_count» ≡ 8) × (r .«region1_count» ≡ 12)) × (shapeOf r ≡ AllLong → (r .«region0_count» ≡ 7) × (r .«region1_count» ≡ 13))
+    → (shapeOf r ≡ AllShort → (r .«region0_count» ≡ 8) × (r .«region1_count» ≡ 12))
+    × (shapeOf r ≡ AllLong → (r .«region0_count» ≡ 7) × (r .«region1_count» ≡ 13))
 unfolding isRecord
 switched-regions mpeg1 r e t =
     let k = switched-body r t (sym (passed (isLongBody r) t) ∙ both-of (isHead mpeg1 r) _ e .1) in

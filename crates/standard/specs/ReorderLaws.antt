@@ -186,12 +186,14 @@ module _ (r : SampleRate) where
       let row = getD shortRows (rowOf r) [] in
       let b = getD row k 192 in
       let c = getD row (k + 1) 192 in
-      ap (λ (l : List ℕ). gathered (orderFrom b l) d) (drop-cons row (k + 1) 192 (omega (arith, row-length)) ∙ ap (λ (n : ℕ). c ∷ drop n row) (sym (add-one (k + 1))))
+      ap (λ (l : List ℕ). gathered (orderFrom b l) d)
+      (drop-cons row (k + 1) 192 (omega (arith, row-length)) ∙ ap (λ (n : ℕ). c ∷ drop n row) (sym (add-one (k + 1))))
       ∙ gathered-append (bandOrder (3 * b) (c - b) 0 (c - b)) (orderFrom c (drop (k + 1 + 1) row)) d
 
   order-none : (d : List ℤ) → gathered (orderOf r 13) d ≡ []
   unfolding orderOf orderFrom gathered
-  order-none d = ap (λ (l : List ℕ). gathered (orderFrom (shortStart r 13) l) d) (drop-of-length-le (getD shortRows (rowOf r) []) {i = 14} (omega (arith, row-length)))
+  order-none d =
+      ap (λ (l : List ℕ). gathered (orderFrom (shortStart r 13) l) d) (drop-of-length-le (getD shortRows (rowOf r) []) {i = 14} (omega (arith, row-length)))
 
   -- past the last band all 576 are passed
   pub order-end : (d old : List ℤ) → take (3 * shortStart r 13) d ++ gathered (orderOf r 13) old ++ drop 576 d ≡ d

@@ -50,7 +50,8 @@ module _ (lent : List ℕ) (stated begin : ℕ) (main : List ℕ) where
         fitting
         ∙ ap told (passed _ (le-ltb (length (take stated lent)) begin (omega (arith, old-long))))
         ∙ ap (λ (n : ℕ). told (reached (drop (n - begin) (take stated lent) ++ main))) old-long
-        ∙ ap (λ (l : List ℕ). told (reached (l ++ main))) (ap (λ (n : ℕ). drop (stated - begin) (take n lent)) (sym e) ∙ sym (take-drop (stated - begin) begin lent))
+        ∙ ap (λ (l : List ℕ). told (reached (l ++ main)))
+        (ap (λ (n : ℕ). drop (stated - begin) (take n lent)) (sym e) ∙ sym (take-drop (stated - begin) begin lent))
 
     -- ---- and what it stores
     paste-all : (d : List ℕ) (at : ℕ) → paste d at main (length main) ≡ (take at d ++ main) ++ drop (at + length main) d
@@ -87,7 +88,8 @@ module _ (lent : List ℕ) (stated begin : ℕ) (main : List ℕ) where
               let e : 0 + begin ≡ begin = omega arith in
               sym (drop-drop (length main) begin slid)
               ∙ ap (drop (length main))
-              (ap (λ (n : ℕ). drop n slid) (sym e) ∙ drop-paste lent 0 (drop (stated - begin) lent) begin (omega arith) (simp length-drop (omega arith)) ∙ ap (λ (n : ℕ). drop n lent) e)
+              (ap (λ (n : ℕ). drop n slid) (sym e) ∙ drop-paste lent 0 (drop (stated - begin) lent) begin (omega arith) (simp length-drop (omega arith))
+              ∙ ap (λ (n : ℕ). drop n lent) e)
               ∙ drop-drop (length main) begin lent
 
 -- ---- the answers

@@ -28,12 +28,14 @@ module _ {A : Type 0} (same : A → A → Bool) where
   abbrev Stands : A → A → List A → ℕ → Type 0
   Stands d x ys n = (getD ys n d ≡ x) × (n < length ys)
 
-  place-step : (d x y : A) (ys : List A) (n : ℕ) (m b : Bool) → (b ≡ true → x ≡ y) → b || m ≡ true → (m ≡ true → Stands d x ys n) → Stands d x (y ∷ ys) (later b n)
+  place-step : (d x y : A) (ys : List A) (n : ℕ) (m b : Bool) → (b ≡ true → x ≡ y) → b || m ≡ true → (m ≡ true → Stands d x ys n)
+      → Stands d x (y ∷ ys) (later b n)
   unfolding later
   place-step d x y ys n m true f g k = (sym (f refl), omega arith)
   place-step d x y ys n m false f g k = let w = k g in (w .0, omega arith)
 
-  pub place-at : ((x y : A) → same x y ≡ true → x ≡ y) → (d x : A) (ys : List A) → member same x ys ≡ true → (getD ys (place same x ys) d ≡ x) × (place same x ys < length ys)
+  pub place-at : ((x y : A) → same x y ≡ true → x ≡ y) → (d x : A) (ys : List A) → member same x ys ≡ true → (getD ys (place same x ys) d ≡ x)
+      × (place same x ys < length ys)
   unfolding member place
   place-at s d x [] e = let z : _≡_ {A = ℕ} 0 1 = cc in let w : ⊥ = omega arith in absurd w
   place-at s d x (y ∷ ys) e = place-step d x y ys (place same x ys) (member same x ys) (same x y) (s x y) e (place-at s d x ys)
@@ -45,7 +47,9 @@ module _ {A : Type 0} (same : A → A → Bool) where
   place-step' m k n false e = suc-ltb k n ∙ e
     where
       suc-ltb : (k n : ℕ) → ltb (suc k) (suc n) ≡ ltb k n
-      suc-ltb k n = elim (decLt k n) [ yes h ↦ lt-ltb (suc k) (suc n) (omega arith) ∙ sym (lt-ltb k n h) | no h ↦ le-ltb (suc k) (suc n) (omega arith) ∙ sym (le-ltb k n (omega arith)) ]
+      suc-ltb k n =
+          elim (decLt k n)
+          [ yes h ↦ lt-ltb (suc k) (suc n) (omega arith) ∙ sym (lt-ltb k n h) | no h ↦ le-ltb (suc k) (suc n) (omega arith) ∙ sym (le-ltb k n (omega arith)) ]
 
   pub place-member : (x : A) (ys : List A) → ltb (place same x ys) (length ys) ≡ member same x ys
   unfolding member place
@@ -64,7 +68,8 @@ module _ {A : Type 0} (p : A → Bool) where
   every-at d (y ∷ ys) h e zero = both-of _ _ e .0
   every-at d (y ∷ ys) h e (suc i) = every-at d ys h (both-of (p y) _ e .1) i
 
-  pub every-member : (same : A → A → Bool) → ((x y : A) → same x y ≡ true → x ≡ y) → (x : A) (ys : List A) → every p ys ≡ true → member same x ys ≡ true → p x ≡ true
+  pub every-member : (same : A → A → Bool) → ((x y : A) → same x y ≡ true → x ≡ y) → (x : A) (ys : List A) → every p ys ≡ true → member same x ys ≡ true
+      → p x ≡ true
   unfolding every member
   every-member same s x [] e m = never m
   every-member same s x (y ∷ ys) e m =

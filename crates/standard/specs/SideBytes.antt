@@ -65,7 +65,9 @@ absent-is r e =
 absent-known : isAbsent absent ≡ true
 unfolding isAbsent noHead noBody noTail absent
 absent-known =
-    both (both refl (both (trio-all (gainBelow 1) (gainBelow 1) (gainBelow 1) _ _ _ no-gain no-gain no-gain) (trio-all (below 1) (below 1) (below 1) 0 0 0 refl refl refl))) refl
+    both (both refl
+    (both (trio-all (gainBelow 1) (gainBelow 1) (gainBelow 1) _ _ _ no-gain no-gain no-gain) (trio-all (below 1) (below 1) (below 1) 0 0 0 refl refl refl)))
+    refl
 
 -- ---- the slots, written and read back
 slotsBits : Bool → ℕ → List SlotRecord → List Bool
@@ -99,8 +101,10 @@ slots-back mpeg1 (suc n) [] e = never e
 slots-back mpeg1 (suc n) (r ∷ rs) e =
     let p = both-of (isRecord mpeg1 r) (fitSlots mpeg1 n rs) e in
     λ j.
-    thenRecords ((ap (recordOf mpeg1) (take-at (bitsOfRecord mpeg1 r) (slotsBits mpeg1 n rs) (recordWidth mpeg1) (length-record mpeg1 r)) ∙ record-back mpeg1 r (p .0)) j)
-    ((ap (recordsOf mpeg1 n) (drop-at (bitsOfRecord mpeg1 r) (slotsBits mpeg1 n rs) (recordWidth mpeg1) (length-record mpeg1 r)) ∙ slots-back mpeg1 n rs (p .1)) j)
+    thenRecords
+    ((ap (recordOf mpeg1) (take-at (bitsOfRecord mpeg1 r) (slotsBits mpeg1 n rs) (recordWidth mpeg1) (length-record mpeg1 r)) ∙ record-back mpeg1 r (p .0)) j)
+    ((ap (recordsOf mpeg1 n) (drop-at (bitsOfRecord mpeg1 r) (slotsBits mpeg1 n rs) (recordWidth mpeg1) (length-record mpeg1 r))
+    ∙ slots-back mpeg1 n rs (p .1)) j)
 
 -- ---- the sharing bits
 falses : (l : List Bool) → noShares 0 l ≡ true → replicate (length l) false ≡ l
@@ -154,7 +158,8 @@ module _ (mpeg1 two : Bool) (i : SideInfo) where
   sideBits = write sideParts ++ sideRest
 
   module _ (known : isSideBy mpeg1 two i ≡ true) where
-    side-is : (i .«main_data_begin» < 2 ^ beginWidth mpeg1) × (length (i .scfsi) ≡ 8) × (noShares (shareCount mpeg1 two) (i .scfsi) ≡ true) × (length (i .slots) ≡ 4) × (fitSlots mpeg1 (slotCount mpeg1 two) (i .slots) ≡ true)
+    side-is : (i .«main_data_begin» < 2 ^ beginWidth mpeg1) × (length (i .scfsi) ≡ 8) × (noShares (shareCount mpeg1 two) (i .scfsi) ≡ true)
+        × (length (i .slots) ≡ 4) × (fitSlots mpeg1 (slotCount mpeg1 two) (i .slots) ≡ true)
     unfolding isSideBy areShares areSlots
     side-is =
         let p = both-of _ (areSlots mpeg1 (slotCount mpeg1 two) (i .slots)) known in
@@ -179,7 +184,9 @@ module _ (mpeg1 two : Bool) (i : SideInfo) where
 
     shares-at : sharesIn mpeg1 two sideBits ≡ take (shareCount mpeg1 two) (i .scfsi)
     unfolding sideRest
-    shares-at = ap (take (shareCount mpeg1 two)) rest-at ∙ take-at (take (shareCount mpeg1 two) (i .scfsi)) (slotsBits mpeg1 (slotCount mpeg1 two) (i .slots)) (shareCount mpeg1 two) shares-length
+    shares-at =
+        ap (take (shareCount mpeg1 two)) rest-at
+        ∙ take-at (take (shareCount mpeg1 two) (i .scfsi)) (slotsBits mpeg1 (slotCount mpeg1 two) (i .slots)) (shareCount mpeg1 two) shares-length
 
     slots-at : drop (sharesAt mpeg1 two + shareCount mpeg1 two) sideBits ≡ slotsBits mpeg1 (slotCount mpeg1 two) (i .slots)
     unfolding sideRest
@@ -191,7 +198,9 @@ module _ (mpeg1 two : Bool) (i : SideInfo) where
     unfolding sideBits sideRest
     side-length =
         length-append (write sideParts) sideRest
-        ∙ (λ j. parts-length j + (length-append (take (shareCount mpeg1 two) (i .scfsi)) (slotsBits mpeg1 (slotCount mpeg1 two) (i .slots)) ∙ (λ k. shares-length k + length-slots mpeg1 (slotCount mpeg1 two) (i .slots) (side-is .4) k)) j)
+        ∙ (λ j. parts-length j +
+        (length-append (take (shareCount mpeg1 two) (i .scfsi)) (slotsBits mpeg1 (slotCount mpeg1 two) (i .slots))
+        ∙ (λ k. shares-length k + length-slots mpeg1 (slotCount mpeg1 two) (i .slots) (side-is .4) k)) j)
         ∙ layout mpeg1 two .whole
 
     side-back : sideIn mpeg1 two sideBits ≡ told i
@@ -218,7 +227,8 @@ module _ (mpeg1 two : Bool) (i : SideInfo) where
         let n = sideBytes mpeg1 two in
         let s = pack n sideBits in
         passed _ (le-ltb (length (front ++ s)) (length front + n) (simp (length-append, length-pack) (omega arith)))
-        ∙ ap (sideIn mpeg1 two) (ap (λ (at : ℕ). bits (front ++ s) at (8 * n)) (sym (add-zero (8 * length front))) ∙ bits-after front s (8 * n) 0 ∙ bits-pack n sideBits side-length)
+        ∙ ap (sideIn mpeg1 two)
+        (ap (λ (at : ℕ). bits (front ++ s) at (8 * n)) (sym (add-zero (8 * length front))) ∙ bits-after front s (8 * n) 0 ∙ bits-pack n sideBits side-length)
         ∙ side-back
 
 -- ---- what is read passes the check
@@ -227,13 +237,15 @@ unfolding fitSlots
 absents-known mpeg1 zero = refl
 absents-known mpeg1 (suc k) = both absent-known (absents-known mpeg1 k)
 
-told-records : (x : Told SlotRecord) (y : Told (List SlotRecord)) (rs : List SlotRecord) → thenRecords x y ≡ told rs → (r : SlotRecord) × (l : List SlotRecord) × (x ≡ told r) × (y ≡ told l) × (r ∷ l ≡ rs)
+told-records : (x : Told SlotRecord) (y : Told (List SlotRecord)) (rs : List SlotRecord) → thenRecords x y ≡ told rs → (r : SlotRecord)
+    × (l : List SlotRecord) × (x ≡ told r) × (y ≡ told l) × (r ∷ l ≡ rs)
 unfolding thenRecords
 told-records (refused k) y rs e = let z : _≡_ {A = ℕ} 0 1 = cc in let w : ⊥ = omega arith in absurd w
 told-records (told r) (refused k) rs e = let z : _≡_ {A = ℕ} 0 1 = cc in let w : ⊥ = omega arith in absurd w
 told-records (told r) (told l) rs e = (r, l, refl, refl, told-is e)
 
-records-known : (mpeg1 : Bool) (n : ℕ) (b : List Bool) (rs : List SlotRecord) (k : ℕ) → recordsOf mpeg1 n b ≡ told rs → (fitSlots mpeg1 n (rs ++ replicate k absent) ≡ true) × (length rs ≡ n)
+records-known : (mpeg1 : Bool) (n : ℕ) (b : List Bool) (rs : List SlotRecord) (k : ℕ) → recordsOf mpeg1 n b ≡ told rs
+    → (fitSlots mpeg1 n (rs ++ replicate k absent) ≡ true) × (length rs ≡ n)
 unfolding recordsOf fitSlots
 records-known mpeg1 zero b rs k e =
     subst (λ (l : List SlotRecord). (fitSlots mpeg1 0 (l ++ replicate k absent) ≡ true) × (length l ≡ 0)) (told-is e) (absents-known mpeg1 k, refl)
@@ -243,7 +255,8 @@ records-known mpeg1 (suc n) b rs k e =
     subst (λ (l : List SlotRecord). (fitSlots mpeg1 (suc n) (l ++ replicate k absent) ≡ true) × (length l ≡ suc n)) (w .4)
     (both (record-known mpeg1 (take (recordWidth mpeg1) b) (w .0) (w .2)) (h .0), ap suc (h .1))
 
-told-side : (mpeg1 two : Bool) (b : List Bool) (y : Told (List SlotRecord)) (i : SideInfo) → thenSide mpeg1 two b y ≡ told i → (rs : List SlotRecord) × (y ≡ told rs) × (thenSide mpeg1 two b (told rs) ≡ told i)
+told-side : (mpeg1 two : Bool) (b : List Bool) (y : Told (List SlotRecord)) (i : SideInfo) → thenSide mpeg1 two b y ≡ told i → (rs : List SlotRecord)
+    × (y ≡ told rs) × (thenSide mpeg1 two b (told rs) ≡ told i)
 unfolding thenSide
 told-side mpeg1 two b (refused k) i e = let z : _≡_ {A = ℕ} 0 1 = cc in let w : ⊥ = omega arith in absurd w
 told-side mpeg1 two b (told rs) i e = (rs, refl, e)
@@ -255,7 +268,9 @@ in-known mpeg1 two b i l e =
     let h = records-known mpeg1 (slotCount mpeg1 two) (drop (sharesAt mpeg1 two + shareCount mpeg1 two) b) (w .0) (4 - slotCount mpeg1 two) (w .1) in
     subst (λ (x : SideInfo). isSideBy mpeg1 two x ≡ true) (told-is (w .2))
     (both (both (lt-ltb _ _ (field-lt b 0 (beginWidth mpeg1)))
-    (both (eq-eqb _ _ shares-eight) (subst (λ (n : ℕ). noShares n (sharesIn mpeg1 two b ++ replicate (8 - shareCount mpeg1 two) false) ≡ true) shares-long (shares-known (sharesIn mpeg1 two b) (8 - shareCount mpeg1 two)))))
+    (both (eq-eqb _ _ shares-eight)
+    (subst (λ (n : ℕ). noShares n (sharesIn mpeg1 two b ++ replicate (8 - shareCount mpeg1 two) false) ≡ true) shares-long
+    (shares-known (sharesIn mpeg1 two b) (8 - shareCount mpeg1 two)))))
     (both (eq-eqb _ _ (slots-four (w .0) (h .1))) (h .0)))
   where
     shares-long : length (sharesIn mpeg1 two b) ≡ shareCount mpeg1 two
@@ -263,7 +278,8 @@ in-known mpeg1 two b i l e =
 
     shares-eight : length (sharesIn mpeg1 two b ++ replicate (8 - shareCount mpeg1 two) false) ≡ 8
     shares-eight =
-        length-append (sharesIn mpeg1 two b) (replicate (8 - shareCount mpeg1 two) false) ∙ simp (shares-long, length-replicate) (omega (arith, layout mpeg1 two .shares))
+        length-append (sharesIn mpeg1 two b) (replicate (8 - shareCount mpeg1 two) false)
+        ∙ simp (shares-long, length-replicate) (omega (arith, layout mpeg1 two .shares))
 
     slots-four : (rs : List SlotRecord) → length rs ≡ slotCount mpeg1 two → length (rs ++ replicate (4 - slotCount mpeg1 two) absent) ≡ 4
     slots-four rs h = length-append rs (replicate (4 - slotCount mpeg1 two) absent) ∙ simp (h, length-replicate) (omega (arith, layout mpeg1 two .slots))
@@ -290,14 +306,16 @@ unfolding beginning sideOf isSide
 beginning-side h i known e =
     let m = isMpeg1 (h .version) in
     let t = isTwo (h .channels) in
-    picked _ known ∙ ap (λ (from : ℕ). sideFrom m t from (headerBytes h ++ pack (sideBytes m t) (sideBits m t i))) (sym (length-header h)) ∙ side-after m t i e (headerBytes h)
+    picked _ known ∙ ap (λ (from : ℕ). sideFrom m t from (headerBytes h ++ pack (sideBytes m t) (sideBits m t i))) (sym (length-header h))
+    ∙ side-after m t i e (headerBytes h)
 
 pub side-known : (h : FrameHeader) (i : SideInfo) (s : List ℕ) → isHeader h ≡ true → sideOf h s ≡ told i → isSide h i ≡ true
 unfolding sideOf isSide
 side-known h i s known e = from-known (isMpeg1 (h .version)) (isTwo (h .channels)) (headerSize h) s i (sym (picked _ known) ∙ e)
 
 -- THE STATEMENT: under a header that bytes read to, side information is accepted exactly when some bytes read to that header and to it
-pub side-read : (h : FrameHeader) (i : SideInfo) → isHeader h ≡ true → (isSide h i ≡ true) ↔ ((s : List ℕ) × Bytes s × (headerOf s ≡ told h) × (sideOf h s ≡ told i))
+pub side-read : (h : FrameHeader) (i : SideInfo) → isHeader h ≡ true
+    → (isSide h i ≡ true) ↔ ((s : List ℕ) × Bytes s × (headerOf s ≡ told h) × (sideOf h s ≡ told i))
 side-read h i known = (
   λ e. (beginning h i, beginning-bytes h i known, beginning-header h i known, beginning-side h i known e),
   λ w. side-known h i (w .0) known (w .3),
@@ -316,7 +334,8 @@ absent-record : (mpeg1 : Bool) → isRecord mpeg1 absent ≡ true
 unfolding isRecord isHead isPreflag isLongBody absent pick
 absent-record mpeg1 =
     both {a = isHead mpeg1 absent} (head mpeg1)
-    (both (both (trio-all (below 32) (below 32) (below 32) 0 0 0 refl refl refl) (trio-all (gainBelow 1) (gainBelow 1) (gainBelow 1) _ _ _ no-gain no-gain no-gain)) refl)
+    (both (both (trio-all (below 32) (below 32) (below 32) 0 0 0 refl refl refl)
+    (trio-all (gainBelow 1) (gainBelow 1) (gainBelow 1) _ _ _ no-gain no-gain no-gain)) refl)
   where
     head : (m : Bool) → isHead m absent ≡ true
     head true = refl
@@ -335,11 +354,15 @@ with-known false false r e = both e (both absent-known (both absent-known (both 
 
 -- THE STATEMENT: under a header that bytes read to, a record is accepted exactly when some bytes read to that header and to side
 -- information that has it in a slot of the frame
-pub slot-read : (h : FrameHeader) (r : SlotRecord) → isHeader h ≡ true → (isRecord (isMpeg1 (h .version)) r ≡ true) ↔ ((s : List ℕ) × (i : SideInfo) × (n : ℕ) × Bytes s × (n < granules h * channelCount h) × (headerOf s ≡ told h) × (sideOf h s ≡ told i) × (getD (i .slots) n absent ≡ r))
+pub slot-read : (h : FrameHeader) (r : SlotRecord) → isHeader h ≡ true
+    → (isRecord (isMpeg1 (h .version)) r ≡ true)
+    ↔ ((s : List ℕ) × (i : SideInfo) × (n : ℕ) × Bytes s × (n < granules h * channelCount h) × (headerOf s ≡ told h) × (sideOf h s ≡ told i)
+    × (getD (i .slots) n absent ≡ r))
 unfolding isSide granules channelCount
 slot-read h r known =
     let m = isMpeg1 (h .version) in
     let t = isTwo (h .channels) in (
       λ e. let w = side-read h (withRecord r) known .0 (with-known m t r e) in (w .0, withRecord r, 0, w .1, layout m t .some, w .2, w .3, refl),
-      λ w. subst (λ (x : SlotRecord). isRecord m x ≡ true) (w .7) (fit-at m (slotCount m t) (w .1 .slots) (w .2) (side-is m t (w .1) (side-known h (w .1) (w .0) known (w .6)) .4) (w .4)),
+      λ w. subst (λ (x : SlotRecord). isRecord m x ≡ true) (w .7)
+          (fit-at m (slotCount m t) (w .1 .slots) (w .2) (side-is m t (w .1) (side-known h (w .1) (w .0) known (w .6)) .4) (w .4)),
     )

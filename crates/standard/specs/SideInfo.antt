@@ -85,7 +85,8 @@ unfoldable pub noHead : SlotRecord → Bool
 noHead r = eqb (r .«part2_3_length») 0 && eqb (r .«big_values») 0 && (eqb (r .«global_gain») 0 && eqb (r .«scalefac_compress») 0)
 
 unfoldable pub noBody : SlotRecord → Bool
-noBody r = isLong (r .«block_type») && trio (gainBelow 1) (gainBelow 1) (gainBelow 1) (r .«subblock_gain») && trio (below 1) (below 1) (below 1) (r .«table_select»)
+noBody r =
+    isLong (r .«block_type») && trio (gainBelow 1) (gainBelow 1) (gainBelow 1) (r .«subblock_gain») && trio (below 1) (below 1) (below 1) (r .«table_select»)
 
 unfoldable pub noTail : SlotRecord → Bool
 noTail r = (eqb (r .«region0_count») 0 && eqb (r .«region1_count») 0) && (not (r .preflag) && not (r .«scalefac_scale») && not (r .«count1table_select»))

@@ -21,7 +21,8 @@ module _ (h : FrameHeader) (i : SideInfo) (e : isSide h i ≡ true) where
       let mpeg1 = isMpeg1 (h .version) in
       let two = isTwo (h .channels) in
       both-of (eqb (length (i .slots)) 4) _
-      (both-of (ltb (i .«main_data_begin») (2 ^ beginWidth mpeg1) && areShares (shareCount mpeg1 two) (i .scfsi)) (areSlots mpeg1 (slotCount mpeg1 two) (i .slots)) e .1)
+      (both-of (ltb (i .«main_data_begin») (2 ^ beginWidth mpeg1) && areShares (shareCount mpeg1 two) (i .scfsi))
+      (areSlots mpeg1 (slotCount mpeg1 two) (i .slots)) e .1)
 
   pub four-slots : length (i .slots) ≡ 4
   four-slots = eqb-true _ 4 (are-slots .0)

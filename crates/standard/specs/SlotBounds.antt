@@ -39,7 +39,8 @@ module _ (P : Outcome → Type 0) (Q : SlotRecord → Type 0) (missing : P (stop
       either-way P (leb (at + r .«part2_3_length») (8 * length s)) _ _ (λ e. own _ r _ _ _ (q 0 (omega arith))) (λ e. missing)
   each-from h i s (r ∷ rs) (suc n) at done q = each-from h i s rs n (at + r .«part2_3_length») _ (λ k l. q (suc k) (omega arith))
 
-  each-slot : (h : FrameHeader) (i : SideInfo) (s : List ℕ) (n : ℕ) → ((k : ℕ) → k < length (records h i) → Q (getD (records h i) k absent)) → P (outcomeOf h i s n)
+  each-slot : (h : FrameHeader) (i : SideInfo) (s : List ℕ) (n : ℕ) → ((k : ℕ) → k < length (records h i) → Q (getD (records h i) k absent))
+      → P (outcomeOf h i s n)
   unfolding outcomeOf slotsOf
   each-slot h i s n q = each-from h i s (records h i) n 0 [] q
 

@@ -70,7 +70,8 @@ module _ (h : FrameHeader) (i : SideInfo) where
         → slotIn (xs ++ ys) at g r lost old ≡ slotIn xs at g r lost old
     slotIn-append at g r lost old k =
         let m : at + r .«part2_3_length» ≤ 8 * length (xs ++ ys) = simp length-append (omega arith) in
-        slotIn-read (xs ++ ys) at g r lost old m ∙ ap (slotOf g r lost old) (bits-append xs ys (r .«part2_3_length») at k) ∙ sym (slotIn-read xs at g r lost old k)
+        slotIn-read (xs ++ ys) at g r lost old m ∙ ap (slotOf g r lost old) (bits-append xs ys (r .«part2_3_length») at k)
+        ∙ sym (slotIn-read xs at g r lost old k)
 
     same-from : (rs : List SlotRecord) (n at : ℕ) (done : List Outcome) → at + startOf (suc n) rs ≤ 8 * length xs
         → getD (slotsFrom h i (xs ++ ys) at done rs) n (stopped MissingBits) ≡ getD (slotsFrom h i xs at done rs) n (stopped MissingBits)
@@ -79,7 +80,8 @@ module _ (h : FrameHeader) (i : SideInfo) where
     same-from (r ∷ rs) zero at done k = slotIn-append at _ r _ _ (omega arith)
     same-from (r ∷ rs) (suc n) at done k =
         same-from rs n (at + r .«part2_3_length») _ (omega arith)
-        ∙ ap (λ (o : Outcome). getD (slotsFrom h i xs (at + r .«part2_3_length») (done ++ (o ∷ [])) rs) n (stopped MissingBits)) (slotIn-append at _ r _ _ (omega arith))
+        ∙ ap (λ (o : Outcome). getD (slotsFrom h i xs (at + r .«part2_3_length») (done ++ (o ∷ [])) rs) n (stopped MissingBits))
+        (slotIn-append at _ r _ _ (omega arith))
 
   length-from : (s : List ℕ) (rs : List SlotRecord) (at : ℕ) (done : List Outcome) → length (slotsFrom h i s at done rs) ≡ length rs
   unfolding slotsFrom thenSlots
@@ -98,7 +100,8 @@ module _ (h : FrameHeader) (i : SideInfo) where
     where
       go : getD (slotsFrom h i s 0 [] (records h i)) n (stopped MissingBits) ≡ stopped MissingBits → 8 * length s < startOf (suc n) (records h i)
       go e =
-          elim (decLe (startOf (suc n) (records h i)) (8 * length s)) [ yes k ↦ never (sym (ap (allowed (isOther 20)) e) ∙ present-from s (records h i) n 0 [] l (omega arith)) | no k ↦ omega arith ]
+          elim (decLe (startOf (suc n) (records h i)) (8 * length s))
+          [ yes k ↦ never (sym (ap (allowed (isOther 20)) e) ∙ present-from s (records h i) n 0 [] l (omega arith)) | no k ↦ omega arith ]
 
       back : 8 * length s < startOf (suc n) (records h i) → getD (slotsFrom h i s 0 [] (records h i)) n (stopped MissingBits) ≡ stopped MissingBits
       back k = missing-from s (records h i) n 0 [] (omega arith)
@@ -107,7 +110,8 @@ module _ (h : FrameHeader) (i : SideInfo) where
   pub same-outcome : (xs ys : List ℕ) (n : ℕ) → (outcomeOf h i xs n ≡ stopped MissingBits → ⊥) → outcomeOf h i (xs ++ ys) n ≡ outcomeOf h i xs n
   unfolding outcomeOf slotsOf
   same-outcome xs ys n found =
-      elim (decLe (startOf (suc n) (records h i)) (8 * length xs)) [ yes k ↦ same-from xs ys (records h i) n 0 [] (omega arith) | no k ↦ absurd (found (missing-from xs (records h i) n 0 [] (omega arith))) ]
+      elim (decLe (startOf (suc n) (records h i)) (8 * length xs))
+      [ yes k ↦ same-from xs ys (records h i) n 0 [] (omega arith) | no k ↦ absurd (found (missing-from xs (records h i) n 0 [] (omega arith))) ]
 
 -- ---- the lent numbers
 pub padded-long : (vs : List ℤ) → 576 ≤ length (padded vs)
@@ -267,7 +271,8 @@ one-slots {r = r} {q = q} a b =
     (λ j. record { verdict = v j; slots = s j }, a .numbers ∙ sym (b .numbers))
 
 -- ---- what is answered of the n-th slot
-told-from : (os : List Outcome) (l : List SlotAnswer) (n : ℕ) (o : Outcome) (z : SlotAnswer) → n < length os → getD (map slotTold os ++ l) n z ≡ slotTold (getD os n o)
+told-from : (os : List Outcome) (l : List SlotAnswer) (n : ℕ) (o : Outcome) (z : SlotAnswer) → n < length os
+    → getD (map slotTold os ++ l) n z ≡ slotTold (getD os n o)
 told-from [] l n o z h = absurd (omega arith)
 told-from (x ∷ os) l zero o z h = refl
 told-from (x ∷ os) l (suc n) o z h = told-from os l n o z (omega arith)

@@ -121,7 +121,8 @@ module _ (s old : List ℕ) where
 pub call-way : (s lent : List ℕ) (stated d : ℕ) → Way s (take stated lent) (frameCall s lent stated d)
 unfolding frameCall
 call-way s lent stated d =
-    either-way (Way s (take stated lent)) (unfit lent stated || ltb d 2304) _ _ (λ e. refusedWay UnfitMemory (λ z. let n : _≡_ {A = ℕ} 1 13 = ap numberOf z in omega arith) refl) (λ e. way s (take stated lent))
+    either-way (Way s (take stated lent)) (unfit lent stated || ltb d 2304) _ _
+    (λ e. refusedWay UnfitMemory (λ z. let n : _≡_ {A = ℕ} 1 13 = ap numberOf z in omega arith) refl) (λ e. way s (take stated lent))
 
 -- ---- the slots of a step have room among the numbers
 way-slots : {s old : List ℕ} {p : Step} → Way s old p → length (p .slots) ≤ 4
@@ -149,7 +150,8 @@ module _ {s : List ℕ} {h : FrameHeader} {i : SideInfo} (bytes : Bytes s) (w : 
   short-le old l = omega (arith, main-le, length-append old (mainOf h s))
 
   pub full-le : (old : List ℕ) → i .«main_data_begin» ≤ length old → length (drop (length old - i .«main_data_begin») old ++ mainOf h s) ≤ 1931
-  full-le old l = omega (arith, main-le, length-append (drop (length old - i .«main_data_begin») old) (mainOf h s), length-drop (length old - i .«main_data_begin») old)
+  full-le old l =
+      omega (arith, main-le, length-append (drop (length old - i .«main_data_begin») old) (mainOf h s), length-drop (length old - i .«main_data_begin») old)
 
 -- ---- of the lent bytes a step knows the stated first ones, and whether enough are lent
 pub stated-only : (s lent other : List ℕ) (stated d : ℕ) → take stated lent ≡ take stated other → ltb (length lent) 4096 ≡ ltb (length other) 4096

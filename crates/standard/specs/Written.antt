@@ -135,5 +135,6 @@ bits-pack (suc n) b e =
     let rest = pack n (drop 8 b) in
     let p : 8 * suc n ≡ 8 + 8 * n = omega arith in
     ap (bits (x ∷ rest) 0) p ∙ bits-add (x ∷ rest) 8 0 (8 * n)
-    ∙ (λ j. bits-byte (take 8 b) rest (simp length-take (omega arith)) j ++ (bits-after (x ∷ []) rest (8 * n) 0 ∙ bits-pack n (drop 8 b) (simp length-drop (omega arith))) j)
+    ∙ (λ j. bits-byte (take 8 b) rest (simp length-take (omega arith)) j
+    ++ (bits-after (x ∷ []) rest (8 * n) 0 ∙ bits-pack n (drop 8 b) (simp length-drop (omega arith))) j)
     ∙ take-append-drop 8 b

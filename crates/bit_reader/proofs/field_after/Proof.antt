@@ -62,8 +62,10 @@ past-start : (gap : ℕ) → gap < 2 ^ 64 → past 0 gap ≡ gap
 past-start gap fits = omega (arith, fits)
 
 -- what the three calls say together
-found : (s : RefT (List ℕ)) (gap n : ℕ) → gap < 2 ^ 64 → (r t : BitReader) (x : ℕ) → r ≡ begun s → t ≡ ahead r gap → x ≡ here t n → x ≡ fieldAt (now s) gap (min n 16)
-found s gap n fits r t x begins skips reads = reads ∙ ap (λ d. here d n) (skips ∙ ap (λ d. ahead d gap) begins) ∙ ap (λ k. fieldAt (now s) k (min n 16)) (past-start gap fits)
+found : (s : RefT (List ℕ)) (gap n : ℕ) → gap < 2 ^ 64 → (r t : BitReader) (x : ℕ) → r ≡ begun s → t ≡ ahead r gap → x ≡ here t n
+    → x ≡ fieldAt (now s) gap (min n 16)
+found s gap n fits r t x begins skips reads =
+    reads ∙ ap (λ d. here d n) (skips ∙ ap (λ d. ahead d gap) begins) ∙ ap (λ k. fieldAt (now s) k (min n 16)) (past-start gap fits)
 
 abbrev stayed : Stays (after.ended .signature .params) (after.ended .kept)
 stayed = (stay-none-slice (0 ∷ []) tt (plain (λ _. u8)) yes, (stay-none (λ _. usize) yes, (stay-none (λ _. usize) yes, tt)))
@@ -78,7 +80,8 @@ module _ {M : Type 1} (𝓤 : URA M) (H : Heap 𝓤) (A : Atoms 𝓤) (mem : Mem
   abbrev Peek : Contract 𝓤
   Peek = tripleOf 𝓤 H A peek.signature (peek.spec 𝓤 H A mem run)
 
-module _ {M : Type 1} (𝓤 : URA M) (H : Heap 𝓤) (A : Atoms 𝓤) (W : Given 𝓤 H A) (mem : Memory → SProp 𝓤) (run : Routine → Fun 𝓤) (κ : Lft) (q : Share) (s : RefT (List ℕ)) (gap n : ℕ) (gap-fits : gap < 2 ^ 64) (n-fits : n < 2 ^ 64) where
+module _ {M : Type 1} (𝓤 : URA M) (H : Heap 𝓤) (A : Atoms 𝓤) (W : Given 𝓤 H A) (mem : Memory → SProp 𝓤) (run : Routine → Fun 𝓤) (κ : Lft) (q : Share)
+    (s : RefT (List ℕ)) (gap n : ℕ) (gap-fits : gap < 2 ^ 64) (n-fits : n < 2 ^ 64) where
   -- a reader's type in a signature, and its lifetime as a local has it
   abbrev α : NamedLft
   α = namedLft 1 0 tt (κ, tt)
@@ -112,12 +115,19 @@ module _ {M : Type 1} (𝓤 : URA M) (H : Heap 𝓤) (A : Atoms 𝓤) (W : Given
   goes-new : ent 𝓤 (onEntry 𝓤 H A after.signature (κ, tt) (q, tt) (s, (gap, (n, tt))) passed) (sep 𝓤 (New 𝓤 H A mem run .pre to-new) (sem 𝓤 H A Own))
   goes-new =
       qed W ((‵ (flft κ q) ⊛ ‵ ftrue) ∷ ‵ (owns (ShrSlice (named 0) κ u8 ∷ usize ∷ usize ∷ []) (s, (gap, (n, tt))) passed) ∷ []) ∵
-      move ! (1 ∷ []) $ fsplit ! $ use1 W (‵ Own ⊛ ‵ Own) (shr-slice-copy 𝓤 H A W (named 0) κ u8 .twice s (v ∷ [])) $ split ! $ move ! (2 ∷ []) $ drop ! $ nothing ! $
-      move ! (1 ∷ 0 ∷ []) $ fjoin ! $ move ! (2 ∷ 0 ∷ []) $ use2 W (raw (New 𝓤 H A mem run .pre to-new)) (qed W ((‵ (flft κ q) ⊛ ‵ ftrue) ∷ ‵ (owns (ShrSlice (named 0) κ u8 ∷ []) (s, tt) (v ∷ [], tt)) ∷ []) ∵ join ! $ frame ! $ done !) $ frame ! $ done !
+      move ! (1 ∷ []) $ fsplit ! $ use1 W (‵ Own ⊛ ‵ Own) (shr-slice-copy 𝓤 H A W (named 0) κ u8 .twice s (v ∷ [])) $ split ! $ move ! (2 ∷ []) $ drop ! $
+      nothing ! $
+      move ! (1 ∷ 0 ∷ []) $ fjoin ! $ move ! (2 ∷ 0 ∷ []) $
+      use2 W (raw (New 𝓤 H A mem run .pre to-new))
+      (qed W ((‵ (flft κ q) ⊛ ‵ ftrue) ∷ ‵ (owns (ShrSlice (named 0) κ u8 ∷ []) (s, tt) (v ∷ [], tt)) ∷ []) ∵ join ! $ frame ! $ done !) $ frame ! $ done !
 
   -- `skip` and `peek` ask the same: a reader and a number
-  goes : (m : ℕ) → m < 2 ^ 64 → (r : BitReader) (u : Val) → ent 𝓤 (⋆ 𝓤 H A (‵ (B α .own r (u ∷ [])) ∷ (‵ (flft κ q) ⊛ ‵ ftrue) ∷ [])) (Skip 𝓤 H A mem run .pre (((κ, tt), (q, tt), tt, (r, (m, tt)), (u ∷ [], (vint w64 m ∷ [], tt))), tt))
-  goes m fits r u = qed W (‵ (B α .own r (u ∷ [])) ∷ (‵ (flft κ q) ⊛ ‵ ftrue) ∷ []) ∵ nothing ! $ owned ! usize (Is usize) (uint-makes 𝓤 H A W w64) m _ (refl, fits) $ fjoin ! $ move ! (1 ∷ 0 ∷ []) $ fjoin ! $ move ! (1 ∷ 0 ∷ []) $ join ! $ frame ! $ done !
+  goes : (m : ℕ) → m < 2 ^ 64 → (r : BitReader) (u : Val)
+      → ent 𝓤 (⋆ 𝓤 H A (‵ (B α .own r (u ∷ [])) ∷ (‵ (flft κ q) ⊛ ‵ ftrue) ∷ []))
+      (Skip 𝓤 H A mem run .pre (((κ, tt), (q, tt), tt, (r, (m, tt)), (u ∷ [], (vint w64 m ∷ [], tt))), tt))
+  goes m fits r u =
+      qed W (‵ (B α .own r (u ∷ [])) ∷ (‵ (flft κ q) ⊛ ‵ ftrue) ∷ []) ∵ nothing ! $ owned ! usize (Is usize) (uint-makes 𝓤 H A W w64) m _ (refl, fits) $
+      fjoin ! $ move ! (1 ∷ 0 ∷ []) $ fjoin ! $ move ! (1 ∷ 0 ∷ []) $ join ! $ frame ! $ done !
 
   -- what each callee says
   said-new : (r : BitReader) → ent 𝓤 (ensured 𝓤 H A new.ended (new.clauses 𝓤 H A mem run) (κ, tt) (s, tt) tt r) (fact 𝓤 (r ≡ begun s))
@@ -132,53 +142,78 @@ module _ {M : Type 1} (𝓤 : URA M) (H : Heap 𝓤) (A : Atoms 𝓤) (W : Given
   exits : (x : ℕ) (u : Val) → x ≡ fieldAt (now s) gap (min n 16) → ent 𝓤 (⋆ 𝓤 H A (‵ (u16 .own x (u ∷ [])) ∷ (‵ (flft κ q) ⊛ ‵ ftrue) ∷ ‵ Own ∷ [])) (Post u)
   exits x u e =
       qed W (‵ (u16 .own x (u ∷ [])) ∷ (‵ (flft κ q) ⊛ ‵ ftrue) ∷ ‵ Own ∷ []) ∵
-      suffices ! _ (ends-at 𝓤 H A after.ended stayed (after.clauses 𝓤 H A mem run) W (((κ, tt), (q, tt), tt, (s, (gap, (n, tt))), passed), tt) u x (tt, (tt, (tt, tt))) (tt, (tt, (tt, tt)))) $ says ! e $
-      move ! (1 ∷ []) $ frame ! $ nothing ! $ owned ! usize (Is usize) (uint-makes 𝓤 H A W w64) n _ (refl, n-fits) $ fjoin ! $ owned ! usize (Is usize) (uint-makes 𝓤 H A W w64) gap _ (refl, gap-fits) $ fjoin ! $ move ! (2 ∷ 0 ∷ []) $ fjoin ! $ frame ! $ done !
+      suffices ! _
+      (ends-at 𝓤 H A after.ended stayed (after.clauses 𝓤 H A mem run) W (((κ, tt), (q, tt), tt, (s, (gap, (n, tt))), passed), tt) u x (tt, (tt, (tt, tt)))
+      (tt, (tt, (tt, tt)))) $ says ! e $
+      move ! (1 ∷ []) $ frame ! $ nothing ! $ owned ! usize (Is usize) (uint-makes 𝓤 H A W w64) n _ (refl, n-fits) $ fjoin ! $
+      owned ! usize (Is usize) (uint-makes 𝓤 H A W w64) gap _ (refl, gap-fits) $ fjoin ! $ move ! (2 ∷ 0 ∷ []) $ fjoin ! $ frame ! $ done !
 
-  module _ (C : Calls 𝓤 H) (Λ : Loops 𝓤 H) (fm : FmC 𝓤 H (W .laws) C) (known-new : Triple 𝓤 (C #bit-reader·new) (New 𝓤 H A mem run)) (known-skip : Triple 𝓤 (C #bit-reader·skip) (Skip 𝓤 H A mem run)) (known-peek : Triple 𝓤 (C #bit-reader·peek) (Peek 𝓤 H A mem run)) where
-    walk : Is (ShrSlice (named 0) κ u8) s (v ∷ []) → ent 𝓤 (onEntry 𝓤 H A after.signature (κ, tt) (q, tt) (s, (gap, (n, tt))) passed) (WpFn 𝓤 H C Λ code.function (v ∷ vint w64 gap ∷ vint w64 n ∷ []) Post)
+  module _ (C : Calls 𝓤 H) (Λ : Loops 𝓤 H) (fm : FmC 𝓤 H (W .laws) C) (known-new : Triple 𝓤 (C #bit-reader·new) (New 𝓤 H A mem run))
+      (known-skip : Triple 𝓤 (C #bit-reader·skip) (Skip 𝓤 H A mem run)) (known-peek : Triple 𝓤 (C #bit-reader·peek) (Peek 𝓤 H A mem run)) where
+    walk : Is (ShrSlice (named 0) κ u8) s (v ∷ [])
+        → ent 𝓤 (onEntry 𝓤 H A after.signature (κ, tt) (q, tt) (s, (gap, (n, tt))) passed)
+        (WpFn 𝓤 H C Λ code.function (v ∷ vint w64 gap ∷ vint w64 n ∷ []) Post)
     walk p =
-        qed W (raw (onEntry 𝓤 H A after.signature (κ, tt) (q, tt) (s, (gap, (n, tt))) passed) ∷ []) ∵ enter ! C Λ code.function (v ∷ vint w64 gap ∷ vint w64 n ∷ []) _ $
+        qed W (raw (onEntry 𝓤 H A after.signature (κ, tt) (q, tt) (s, (gap, (n, tt))) passed) ∷ []) ∵ enter ! C Λ code.function
+        (v ∷ vint w64 gap ∷ vint w64 n ∷ []) _ $
         alloc1 ! (λ l₀. alloc1 ! (λ l₁. alloc1 ! (λ l₂. alloc1 ! (λ l₃. alloc1 ! (λ l₄. alloc1 ! (λ l₅. alloc0 ! $ params1 ! $
-        pass1 ! (init ! 8 refl (shr-slice-lawful 𝓤 H A W (named 0) κ u8 .typed s (v ∷ []) p .0)) $ pass1 ! (init ! 6 refl (tt, record { fits = gap-fits })) $ pass1 ! (init ! 4 refl (tt, record { fits = n-fits })) $ pass0 ! $
+        pass1 ! (init ! 8 refl (shr-slice-lawful 𝓤 H A W (named 0) κ u8 .typed s (v ∷ []) p .0)) $ pass1 ! (init ! 6 refl (tt, record { fits = gap-fits })) $
+        pass1 ! (init ! 4 refl (tt, record { fits = n-fits })) $ pass0 ! $
         -- [_5; …; _4; …; _3; …; _2; …; _1; …; _0; …; the entry]
         move ! (12 ∷ []) $ use1 W (raw (New 𝓤 H A mem run .pre to-new) ⊛ ‵ Own) goes-new $ split ! $
         calls-at ! fm (New 𝓤 H A mem run) known-new to-new (and-then ! (load ! (from ! (stop !)) (look ! 10 refl)) (no-more !)) (λ u.
-        use1 W (later (some (λ (r : BitReader). ((‵ (flft κ q) ⊛ ‵ ftrue) ⊛ ‵ (B α .own r (u ∷ []))) ⊛ raw (ensured 𝓤 H A new.ended (new.clauses 𝓤 H A mem run) (κ, tt) (s, tt) tt r)))) (id⊢ 𝓤 _) $ await ! tt $ pick ! (λ r.
+        use1 W (later
+        (some (λ (r : BitReader). ((‵ (flft κ q) ⊛ ‵ ftrue) ⊛ ‵ (B α .own r (u ∷ []))) ⊛ raw
+        (ensured 𝓤 H A new.ended (new.clauses 𝓤 H A mem run) (κ, tt) (s, tt) tt r)))) (id⊢ 𝓤 _) $ await ! tt $ pick ! (λ r.
         split ! $ move ! (1 ∷ []) $ use1 W (raw (fact 𝓤 (r ≡ begun s))) (said-new r) $ heard ! (r ≡ begun s) (λ begins. split ! $ move ! (1 ∷ []) $
         -- [the reader; the token; what the bytes own; _5; …; _4; …; _3; …; _2; …; _1; …; _0; …]
         peeks ! (B α) (Is (B α)) (shows 𝓤 H A (B α)) r (u ∷ []) (λ is.
         land ! (from ! (stop !)) (init ! 3 refl (LL.lawful (D αᵉ) (L αᵉ) 𝓤 H A W .typed r _ is .0)) $
         use2 W (raw (Skip 𝓤 H A mem run .pre (to-skip r u))) (goes gap gap-fits r u) $
-        calls-at ! fm (Skip 𝓤 H A mem run) known-skip (to-skip r u) (and-then ! (load ! (from ! (stop !)) (look ! 2 refl)) (and-then ! (load ! (from ! (stop !)) (look ! 8 refl)) (no-more !))) (λ u′.
-        use1 W (later (some (λ (t : BitReader). ((‵ (flft κ q) ⊛ ‵ ftrue) ⊛ ‵ (B α .own t (u′ ∷ []))) ⊛ raw (ensured 𝓤 H A skip.ended (skip.clauses 𝓤 H A mem run) (κ, tt) (r, (gap, tt)) tt t)))) (id⊢ 𝓤 _) $ await ! tt $ pick ! (λ t.
+        calls-at ! fm (Skip 𝓤 H A mem run) known-skip (to-skip r u)
+        (and-then ! (load ! (from ! (stop !)) (look ! 2 refl)) (and-then ! (load ! (from ! (stop !)) (look ! 8 refl)) (no-more !))) (λ u′.
+        use1 W (later
+        (some (λ (t : BitReader). ((‵ (flft κ q) ⊛ ‵ ftrue) ⊛ ‵ (B α .own t (u′ ∷ []))) ⊛ raw
+        (ensured 𝓤 H A skip.ended (skip.clauses 𝓤 H A mem run) (κ, tt) (r, (gap, tt)) tt t)))) (id⊢ 𝓤 _) $ await ! tt $ pick ! (λ t.
         split ! $ move ! (1 ∷ []) $ use1 W (raw (fact 𝓤 (t ≡ ahead r gap))) (said-skip r t) $ heard ! (t ≡ ahead r gap) (λ skips. split ! $ move ! (1 ∷ []) $
         peeks ! (B α) (Is (B α)) (shows 𝓤 H A (B α)) t (u′ ∷ []) (λ is′.
         land ! (from ! (stop !)) (init ! 5 refl (LL.lawful (D αᵉ) (L αᵉ) 𝓤 H A W .typed t _ is′ .0)) $
         use2 W (raw (Peek 𝓤 H A mem run .pre (to-peek t u′))) (goes n n-fits t u′) $
-        calls-at ! fm (Peek 𝓤 H A mem run) known-peek (to-peek t u′) (and-then ! (load ! (from ! (stop !)) (look ! 4 refl)) (and-then ! (load ! (from ! (stop !)) (look ! 6 refl)) (no-more !))) (λ u″.
-        use1 W (later (some (λ (x : ℕ). ((‵ (flft κ q) ⊛ ‵ ftrue) ⊛ ‵ (u16 .own x (u″ ∷ []))) ⊛ raw (ensured 𝓤 H A peek.ended (peek.clauses 𝓤 H A mem run) (κ, tt) (t, (n, tt)) tt x)))) (id⊢ 𝓤 _) $ await ! tt $ pick ! (λ x.
+        calls-at ! fm (Peek 𝓤 H A mem run) known-peek (to-peek t u′)
+        (and-then ! (load ! (from ! (stop !)) (look ! 4 refl)) (and-then ! (load ! (from ! (stop !)) (look ! 6 refl)) (no-more !))) (λ u″.
+        use1 W (later
+        (some (λ (x : ℕ). ((‵ (flft κ q) ⊛ ‵ ftrue) ⊛ ‵ (u16 .own x (u″ ∷ []))) ⊛ raw
+        (ensured 𝓤 H A peek.ended (peek.clauses 𝓤 H A mem run) (κ, tt) (t, (n, tt)) tt x)))) (id⊢ 𝓤 _) $ await ! tt $ pick ! (λ x.
         split ! $ move ! (1 ∷ []) $ use1 W (raw (fact 𝓤 (x ≡ here t n))) (said-peek t x) $ heard ! (x ≡ here t n) (λ reads. split ! $ move ! (1 ∷ []) $
         -- [the result; the token; what the bytes own; _5; …; _4; …; _3; …; _2; …; _1; …; _0; …]
         peeks ! u16 (Is u16) (shows 𝓤 H A u16) x (u″ ∷ []) (λ is″.
         land ! (from ! (stop !)) (init ! 13 refl (uint-lawful 𝓤 H A W w16 .typed x _ is″ .0)) $
         returns ! (look ! 13 refl) $ forget ! 3 refl $ forget ! 5 refl $ forget ! 7 refl $ forget ! 9 refl $ forget ! 11 refl $ forget ! 13 refl $
-        move ! (13 ∷ 14 ∷ []) $ free1 ! $ move ! (11 ∷ 12 ∷ []) $ free1 ! $ move ! (9 ∷ 10 ∷ []) $ free1 ! $ move ! (7 ∷ 8 ∷ []) $ free1 ! $ move ! (5 ∷ 6 ∷ []) $ free1 ! $ move ! (3 ∷ 4 ∷ []) $ free1 ! $ free0 ! $
+        move ! (13 ∷ 14 ∷ []) $ free1 ! $ move ! (11 ∷ 12 ∷ []) $ free1 ! $ move ! (9 ∷ 10 ∷ []) $ free1 ! $ move ! (7 ∷ 8 ∷ []) $ free1 ! $
+        move ! (5 ∷ 6 ∷ []) $ free1 ! $ move ! (3 ∷ 4 ∷ []) $ free1 ! $ free0 ! $
         by ! (exits x u″ (found s gap n gap-fits r t x begins skips reads))))))))))))))))))))
 
 module _ {M : Type 1} (𝓤 : URA M) (H : Heap 𝓤) (A : Atoms 𝓤) (W : Given 𝓤 H A) (mem : Memory → SProp 𝓤) (run : Routine → Fun 𝓤) where
-  after-walks : (C : Calls 𝓤 H) (Λ : Loops 𝓤 H) → FmC 𝓤 H (W .laws) C → Triple 𝓤 (C #bit-reader·new) (New 𝓤 H A mem run) → Triple 𝓤 (C #bit-reader·skip) (Skip 𝓤 H A mem run) → Triple 𝓤 (C #bit-reader·peek) (Peek 𝓤 H A mem run)
+  after-walks : (C : Calls 𝓤 H) (Λ : Loops 𝓤 H) → FmC 𝓤 H (W .laws) C → Triple 𝓤 (C #bit-reader·new) (New 𝓤 H A mem run)
+      → Triple 𝓤 (C #bit-reader·skip) (Skip 𝓤 H A mem run) → Triple 𝓤 (C #bit-reader·peek) (Peek 𝓤 H A mem run)
       → Walks 𝓤 H A after.ended stayed (WpFn 𝓤 H C Λ code.function) (after.clauses 𝓤 H A mem run)
   after-walks C Λ fm known-new known-skip known-peek =
-      walked 𝓤 H A after.ended stayed (after.clauses 𝓤 H A mem run) (WpFn 𝓤 H C Λ code.function) (λ κs. (slice-vals, (uint-vals w64, (uint-vals w64, tt)))) (λ κs. (shr-slice-tells (named 0) (κs .0) u8, (uint-tells w64, (uint-tells w64, tt))))
-      (λ κs qs bounds a g are. via 𝓤 _ (fst∗ 𝓤 _ (emp 𝓤)) (walk 𝓤 H A W mem run (κs .0) (qs .0) (a .0) (a .1 .0) (a .1 .1 .0) (are .1 .0 .1) (are .1 .1 .0 .1) C Λ fm known-new known-skip known-peek (are .0)))
+      walked 𝓤 H A after.ended stayed (after.clauses 𝓤 H A mem run) (WpFn 𝓤 H C Λ code.function) (λ κs. (slice-vals, (uint-vals w64, (uint-vals w64, tt))))
+      (λ κs. (shr-slice-tells (named 0) (κs .0) u8, (uint-tells w64, (uint-tells w64, tt))))
+      (λ κs qs bounds a g are. via 𝓤 _ (fst∗ 𝓤 _ (emp 𝓤))
+      (walk 𝓤 H A W mem run (κs .0) (qs .0) (a .0) (a .1 .0) (a .1 .1 .0) (are .1 .0 .1) (are .1 .1 .0 .1) C Λ fm known-new known-skip known-peek (are .0)))
 
 after-meets : {M : Type 1} (𝓤 : URA M) (H : Heap 𝓤) (A : Atoms 𝓤) (W : Given 𝓤 H A) (mem : Memory → SProp 𝓤) (run : Routine → Fun 𝓤) (𝓣 : Tables 𝓤 H)
-    → Triple 𝓤 (𝓣 .C #bit-reader·new) (New 𝓤 H A mem run) → Triple 𝓤 (𝓣 .C #bit-reader·skip) (Skip 𝓤 H A mem run) → Triple 𝓤 (𝓣 .C #bit-reader·peek) (Peek 𝓤 H A mem run)
+    → Triple 𝓤 (𝓣 .C #bit-reader·new) (New 𝓤 H A mem run) → Triple 𝓤 (𝓣 .C #bit-reader·skip) (Skip 𝓤 H A mem run)
+    → Triple 𝓤 (𝓣 .C #bit-reader·peek) (Peek 𝓤 H A mem run)
     → Meets 𝓤 H A after.signature (WpFn 𝓤 H (𝓣 .C) (𝓣 .Λ) code.function) (after.spec 𝓤 H A mem run)
 after-meets 𝓤 H A W mem run 𝓣 known-new known-skip known-peek =
-    walk-meets 𝓤 H A after.ended stayed W (goes-none-slice 𝓤 H A W 1 (0 ∷ []) tt (plain (λ _. u8)) yes, (goes-none 𝓤 H A W 1 (λ _. usize) yes (λ κs x f. refl), (goes-none 𝓤 H A W 1 (λ _. usize) yes (λ κs x f. refl), tt))) (after.clauses 𝓤 H A mem run)
-    (WpFn 𝓤 H (𝓣 .C) (𝓣 .Λ) code.function) (WpFn-mono 𝓤 H (W .laws) 𝓣 code.function) (after-walks 𝓤 H A W mem run (𝓣 .C) (𝓣 .Λ) (fmOf 𝓤 H (W .laws) 𝓣) known-new known-skip known-peek)
+    walk-meets 𝓤 H A after.ended stayed W (
+      goes-none-slice 𝓤 H A W 1 (0 ∷ []) tt (plain (λ _. u8)) yes,
+      (goes-none 𝓤 H A W 1 (λ _. usize) yes (λ κs x f. refl), (goes-none 𝓤 H A W 1 (λ _. usize) yes (λ κs x f. refl), tt)),
+    ) (after.clauses 𝓤 H A mem run)
+    (WpFn 𝓤 H (𝓣 .C) (𝓣 .Λ) code.function) (WpFn-mono 𝓤 H (W .laws) 𝓣 code.function)
+    (after-walks 𝓤 H A W mem run (𝓣 .C) (𝓣 .Λ) (fmOf 𝓤 H (W .laws) 𝓣) known-new known-skip known-peek)
 
 pub field-after-spec : {M : Type 1} → stated.statement M
 unfolding code.routine tablesOf

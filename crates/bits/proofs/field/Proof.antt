@@ -92,10 +92,18 @@ rem-result : tie.Need-rem-result
 rem-result c = rw (power _ _ (c .before .before .before .at-most-16 .ensures)) (pow-pos (c .before .before .before .at-most-16 .result))
 
 cast-result-3 : tie.Need-cast-result-3
-cast-result-3 c = record { fits = cut-lt (now (c .before .before .before .before .before .args .s)) (c .before .before .before .before .before .args .at) (c .before .before .before .before .before .args .n) _ _ _ _ (c .before .before .before .at-most-16 .ensures) (c .before .before .byte .ensures) (c .before .byte2 .ensures) (c .byte3 .ensures) }
+cast-result-3 c =
+    record {
+      fits = cut-lt (now (c .before .before .before .before .before .args .s)) (c .before .before .before .before .before .args .at)
+          (c .before .before .before .before .before .args .n) _ _ _ _ (c .before .before .before .at-most-16 .ensures) (c .before .before .byte .ensures)
+          (c .before .byte2 .ensures) (c .byte3 .ensures);
+    }
 
 returns : tie.Need-returns
-returns c = cut (now (c .before .before .before .before .before .args .s)) (c .before .before .before .before .before .args .at) (c .before .before .before .before .before .args .n) _ _ _ _ (c .before .before .before .at-most-16 .ensures) (c .before .before .byte .ensures) (c .before .byte2 .ensures) (c .byte3 .ensures)
+returns c =
+    cut (now (c .before .before .before .before .before .args .s)) (c .before .before .before .before .before .args .at)
+    (c .before .before .before .before .before .args .n) _ _ _ _ (c .before .before .before .at-most-16 .ensures) (c .before .before .byte .ensures)
+    (c .before .byte2 .ensures) (c .byte3 .ensures)
 
 pub field-spec : {M : Type 1} → statement M
 field-spec =

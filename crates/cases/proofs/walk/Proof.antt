@@ -13,7 +13,8 @@ use Rattle.cases.proofs.run_line.Reads as run-line-reads
 use Rattle.cases.proofs.words.line_end.Reads as line-end-reads
 
 abbrev Inv-loop : tie.InvT-loop
-Inv-loop text last₀ bytes₀ numbers₀ out₀ state₀ at₀ last bytes numbers out state at = (length last ≡ length last₀) × (length bytes ≡ length bytes₀) × (length numbers ≡ length numbers₀) × (length out ≡ length out₀)
+Inv-loop text last₀ bytes₀ numbers₀ out₀ state₀ at₀ last bytes numbers out state at =
+    (length last ≡ length last₀) × (length bytes ≡ length bytes₀) × (length numbers ≡ length numbers₀) × (length out ≡ length out₀)
 
 abbrev μ-loop : tie.MeasureT-loop
 μ-loop text last₀ bytes₀ numbers₀ out₀ state₀ at₀ last bytes numbers out state at = length text - at
@@ -46,10 +47,15 @@ returns : tie.Need-returns Inv-loop μ-loop
 returns c = search needs
 
 add-at : tie.Need-add-at Inv-loop μ-loop
-add-at c = omega (arith, c .before .before .before .before .before .before .before .before .before .before .before .before .before .before .before .before .before .before .before .before .before .good .0)
+add-at c =
+    omega (
+      arith,
+      c .before .before .before .before .before .before .before .before .before .before .before .before .before .before .before .before .before .before .before .before .before .good .0,
+    )
 
 loop-less : tie.Need-loop-less Inv-loop μ-loop
-loop-less c = omega (arith, c .before .before .before .before .before .before .before .before .before .before .before .before .before .before .line-end .ensures)
+loop-less c =
+    omega (arith, c .before .before .before .before .before .before .before .before .before .before .before .before .before .before .line-end .ensures)
 
 loop-again : tie.Need-loop-again Inv-loop μ-loop
 loop-again c = search needs

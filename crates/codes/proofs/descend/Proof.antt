@@ -60,7 +60,8 @@ loop-less c = omega arith
 loop-again : tie.Need-loop-again Inv-loop μ-loop
 loop-again c =
     let w = c .before .before .before .loop .inv in (
-      descent-turn _ _ _ _ _ _ _ _ (c .before .before .before .before .four .ensures) (omega arith) (w .1) (leads _ _ (omega (arith, c .before .before .before .before .before .before .before .before .pre .0))) (c .child .ensures .0) (w .0),
+      descent-turn _ _ _ _ _ _ _ _ (c .before .before .before .before .four .ensures) (omega arith) (w .1)
+          (leads _ _ (omega (arith, c .before .before .before .before .before .before .before .before .pre .0))) (c .child .ensures .0) (w .0),
       omega (arith, w .1),
       c .child .ensures .1,
     )

@@ -51,7 +51,8 @@ sub-used-2 c = c .before .descend .ensures .1
 
 returns : tie.Need-returns Inv-loop μ-loop
 returns c =
-    lookup-short _ _ _ _ _ _ _ _ (c .before .before .before .before .left .ensures) (along-from _ _ _ _ _ (c .before .before .before .start .ensures) (c .before .before .descend .ensures .0)) (c .if1 .taken)
+    lookup-short _ _ _ _ _ _ _ _ (c .before .before .before .before .left .ensures)
+    (along-from _ _ _ _ _ (c .before .before .before .start .ensures) (c .before .before .descend .ensures .0)) (c .if1 .taken)
 
 loop-holds : tie.Need-loop-holds Inv-loop μ-loop
 loop-holds c = (
@@ -65,10 +66,17 @@ add-loop c = omega (arith, c .loop .inv .2)
 
 returns-2 : tie.Need-returns-2 Inv-loop μ-loop
 returns-2 c =
-    lookup-cut _ _ _ _ _ _ _ _ (c .before .before .before .before .before .before .before .left .ensures) (c .before .before .loop .inv .0) (leads _ _ (omega (arith, c .before .before .before .before .before .before .before .before .reach .ensures))) (c .if2 .taken)
+    lookup-cut _ _ _ _ _ _ _ _ (c .before .before .before .before .before .before .before .left .ensures) (c .before .before .loop .inv .0)
+    (leads _ _ (omega (arith, c .before .before .before .before .before .before .before .before .reach .ensures))) (c .if2 .taken)
 
 add-bit : tie.Need-add-bit Inv-loop μ-loop
-add-bit c = omega (arith, c .before .before .loop .inv .1, c .before .before .before .before .before .before .before .left .ensures, c .before .before .before .before .before .before .before .before .before .before .before .fits .end)
+add-bit c =
+    omega (
+      arith,
+      c .before .before .loop .inv .1,
+      c .before .before .before .before .before .before .before .left .ensures,
+      c .before .before .before .before .before .before .before .before .before .before .before .fits .end,
+    )
 
 bit-requires : tie.Need-bit-requires Inv-loop μ-loop
 bit-requires c κs = tt
@@ -77,10 +85,20 @@ one-requires : tie.Need-one-requires Inv-loop μ-loop
 one-requires c κs = tt
 
 child-requires : tie.Need-child-requires Inv-loop μ-loop
-child-requires c κs = (omega (arith, c .before .before .before .before .before .before .before .before .before .before .reach .ensures), omega (arith, c .one .ensures, one-le (c .before .bit .result)))
+child-requires c κs = (
+  omega (arith, c .before .before .before .before .before .before .before .before .before .before .reach .ensures),
+  omega
+      (arith, c .one .ensures, one-le (c .before .bit .result)),
+)
 
 add-used : tie.Need-add-used Inv-loop μ-loop
-add-used c = omega (arith, c .before .before .before .before .before .loop .inv .1, c .before .before .before .before .before .before .before .before .before .before .left .ensures, c .before .before .before .before .before .before .before .before .before .before .before .before .before .before .fits .end)
+add-used c =
+    omega (
+      arith,
+      c .before .before .before .before .before .loop .inv .1,
+      c .before .before .before .before .before .before .before .before .before .before .left .ensures,
+      c .before .before .before .before .before .before .before .before .before .before .before .before .before .before .fits .end,
+    )
 
 loop-less : tie.Need-loop-less Inv-loop μ-loop
 loop-less c = omega arith
@@ -91,8 +109,11 @@ loop-again c =
     let w = c .before .before .before .before .before .loop .inv in
     let n = c .before .before .before .before .before .loop .used in
     let l = c .before .before .before .before .before .loop .link in
-    let e = c .child .ensures .0 ∙ ap (λ (k : ℕ). getD (now (a .trees)) (l + k) 0) (c .before .one .ensures) ∙ child-is (now (a .trees)) l _ ∙ ap (child (now (a .trees)) l) (c .before .before .bit .ensures) in (
-      subst (Along (now (a .trees)) (start (now (a .trees)) (a .table)) (now (a .s)) (a .at) (n + 1)) (sym e) (along-turn _ _ _ _ _ _ (w .0) (leads _ _ (omega (arith, c .before .before .before .before .before .before .before .before .before .before .before .reach .ensures)))),
+    let e = c .child .ensures .0 ∙ ap (λ (k : ℕ). getD (now (a .trees)) (l + k) 0) (c .before .one .ensures) ∙ child-is (now (a .trees)) l _
+    ∙ ap (child (now (a .trees)) l) (c .before .before .bit .ensures) in (
+      subst (Along (now (a .trees)) (start (now (a .trees)) (a .table)) (now (a .s)) (a .at) (n + 1)) (sym e)
+          (along-turn _ _ _ _ _ _ (w .0)
+          (leads _ _ (omega (arith, c .before .before .before .before .before .before .before .before .before .before .before .reach .ensures)))),
       omega (arith, w .1),
       c .child .ensures .1,
     )
@@ -102,7 +123,8 @@ cast-t18 c = search needs
 
 returns-3 : tie.Need-returns-3 Inv-loop μ-loop
 returns-3 c =
-    lookup-end _ _ _ _ _ _ _ _ (c .before .before .before .before .before .before .left .ensures) (c .before .loop .inv .0) (ends _ _ (omega (arith, c .before .before .before .before .before .before .before .reach .ensures))) (c .before .loop .inv .1)
+    lookup-end _ _ _ _ _ _ _ _ (c .before .before .before .before .before .before .left .ensures) (c .before .loop .inv .0)
+    (ends _ _ (omega (arith, c .before .before .before .before .before .before .before .reach .ensures))) (c .before .loop .inv .1)
 
 pub lookup-spec : {M : Type 1} → statement M
 lookup-spec =

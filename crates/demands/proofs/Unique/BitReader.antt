@@ -30,7 +30,8 @@ use Rattle.bit_reader.proofs.field_after.Kinds as field-after-kinds
 use Rattle.bit_reader.proofs.field_after.Reads as field-after-reads
 
 -- what a call shows, its answer or its answer and what it leaves, is the same for any two answers and states that the clauses c admit of that call
-abbrev pub Fixes : {M : Type 1} (𝓤 : URA M) (T : Ended) (c : Clauses 𝓤 T) (X : Type 0) → ((κs : Lfts (T .signature .lifetimes)) → Res (T .signature) κs → AtExit T κs → X) → Type 1
+abbrev pub Fixes : {M : Type 1} (𝓤 : URA M) (T : Ended) (c : Clauses 𝓤 T) (X : Type 0)
+    → ((κs : Lfts (T .signature .lifetimes)) → Res (T .signature) κs → AtExit T κs → X) → Type 1
 Fixes 𝓤 T c X shown = (κs : Lfts (T .signature .lifetimes)) (a : Args (T .signature) κs) (g : c κs a .ghost) (r q : Res (T .signature) κs) (s t : AtExit T κs)
     → ent 𝓤 (conj 𝓤 (c κs a .ensures g r s) (c κs a .ensures g q t)) (fact 𝓤 (shown κs r s ≡ shown κs q t))
 
@@ -59,23 +60,30 @@ module _ {M : Type 1} (𝓤 : URA M) (H : Heap 𝓤) (A : Atoms 𝓤) (mem : Mem
   read-unique κs a g r q s t = from-both 𝓤 _ _ _ (λ p o i. ((p .0 ∙ sym (o .0)) i, (p .1 ∙ sym (o .1)) i))
 
   -- no premise above is idle: the definition's answer, at what it leaves, meets the clauses of every call
-  pub new-answers : (κs : Lfts 1) (a : Args new.signature κs) (s : AtExit new.ended κs) → ent 𝓤 (emp 𝓤) (new.clauses 𝓤 H A mem run κs a .ensures tt (begun (a .0)) s)
+  pub new-answers : (κs : Lfts 1) (a : Args new.signature κs) (s : AtExit new.ended κs)
+      → ent 𝓤 (emp 𝓤) (new.clauses 𝓤 H A mem run κs a .ensures tt (begun (a .0)) s)
   new-answers κs a s = factI 𝓤 _ (emp 𝓤) refl
 
-  pub place-answers : (κs : Lfts 1) (a : Args place.signature κs) (s : AtExit place.ended κs) → ent 𝓤 (emp 𝓤) (place.clauses 𝓤 H A mem run κs a .ensures tt (a .0 .at) s)
+  pub place-answers : (κs : Lfts 1) (a : Args place.signature κs) (s : AtExit place.ended κs)
+      → ent 𝓤 (emp 𝓤) (place.clauses 𝓤 H A mem run κs a .ensures tt (a .0 .at) s)
   place-answers κs a s = factI 𝓤 _ (emp 𝓤) refl
 
-  pub peek-answers : (κs : Lfts 1) (a : Args peek.signature κs) (s : AtExit peek.ended κs) → ent 𝓤 (emp 𝓤) (peek.clauses 𝓤 H A mem run κs a .ensures tt (here (a .0) (a .1 .0)) s)
+  pub peek-answers : (κs : Lfts 1) (a : Args peek.signature κs) (s : AtExit peek.ended κs)
+      → ent 𝓤 (emp 𝓤) (peek.clauses 𝓤 H A mem run κs a .ensures tt (here (a .0) (a .1 .0)) s)
   peek-answers κs a s = factI 𝓤 _ (emp 𝓤) refl
 
-  pub skip-answers : (κs : Lfts 1) (a : Args skip.signature κs) (s : AtExit skip.ended κs) → ent 𝓤 (emp 𝓤) (skip.clauses 𝓤 H A mem run κs a .ensures tt (ahead (a .0) (a .1 .0)) s)
+  pub skip-answers : (κs : Lfts 1) (a : Args skip.signature κs) (s : AtExit skip.ended κs)
+      → ent 𝓤 (emp 𝓤) (skip.clauses 𝓤 H A mem run κs a .ensures tt (ahead (a .0) (a .1 .0)) s)
   skip-answers κs a s = factI 𝓤 _ (emp 𝓤) refl
 
-  pub read-answers : (κs : Lfts 2) (a : Args read.signature κs) → ent 𝓤 (emp 𝓤) (read.clauses 𝓤 H A mem run κs a .ensures tt (here (now (a .0)) (a .1 .0)) (at-last (a .0) (ahead (now (a .0)) (a .1 .0)), (a .1 .0, tt)))
+  pub read-answers : (κs : Lfts 2) (a : Args read.signature κs)
+      → ent 𝓤 (emp 𝓤) (read.clauses 𝓤 H A mem run κs a .ensures tt (here (now (a .0)) (a .1 .0)) (at-last (a .0) (ahead (now (a .0)) (a .1 .0)), (a .1 .0, tt)))
   read-answers κs a = factI 𝓤 _ (emp 𝓤) (refl, refl)
 
-pub field-after-unique : (κs : Lfts 1) (v : ArgsD field-after.signature κs) (r q : ℕ) (s t : AtExit (endedOf 1 field-after-kinds.ps field-after-kinds.r) κs) → field-after-reads.Post κs v r s → field-after-reads.Post κs v q t → r ≡ q
+pub field-after-unique : (κs : Lfts 1) (v : ArgsD field-after.signature κs) (r q : ℕ) (s t : AtExit (endedOf 1 field-after-kinds.ps field-after-kinds.r) κs)
+    → field-after-reads.Post κs v r s → field-after-reads.Post κs v q t → r ≡ q
 field-after-unique κs v r q s t p o = p ∙ sym o
 
-pub field-after-answers : (κs : Lfts 1) (v : ArgsD field-after.signature κs) (s : AtExit (endedOf 1 field-after-kinds.ps field-after-kinds.r) κs) → field-after-reads.Post κs v (fieldAt (now (v .0)) (v .1 .0) (min (v .1 .1 .0) 16)) s
+pub field-after-answers : (κs : Lfts 1) (v : ArgsD field-after.signature κs) (s : AtExit (endedOf 1 field-after-kinds.ps field-after-kinds.r) κs)
+    → field-after-reads.Post κs v (fieldAt (now (v .0)) (v .1 .0) (min (v .1 .1 .0) 16)) s
 field-after-answers κs v s = refl

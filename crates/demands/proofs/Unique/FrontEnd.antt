@@ -15,10 +15,15 @@ use Rattle.front_end.proofs.front_end_reorder.Kinds as front-end-reorder-kinds
 use Rattle.front_end.proofs.front_end_sizes.Reads as front-end-sizes
 use Rattle.front_end.proofs.front_end_sizes.Kinds as front-end-sizes-kinds
 
-pub front-end-frame-unique : OneState front-end-frame-kinds.ps front-end-frame-kinds.r front-end-frame.Post {S = List ℕ × (List ℤ × List ℕ)} (λ κs s. (now (s .1 .0), (now (s .1 .1 .1 .0), now (s .1 .1 .1 .1 .0))))
-front-end-frame-unique κs a x y s t p q = (alike (p .answer) (q .answer), λ j. (alike (p .bytes) (q .bytes) j, (alike (p .numbers-are) (q .numbers-are) j, alike (p .rows-are) (q .rows-are) j)))
+pub front-end-frame-unique : OneState front-end-frame-kinds.ps front-end-frame-kinds.r front-end-frame.Post {S = List ℕ × (List ℤ × List ℕ)}
+    (λ κs s. (now (s .1 .0), (now (s .1 .1 .1 .0), now (s .1 .1 .1 .1 .0))))
+front-end-frame-unique κs a x y s t p q = (
+  alike (p .answer) (q .answer),
+  λ j. (alike (p .bytes) (q .bytes) j, (alike (p .numbers-are) (q .numbers-are) j, alike (p .rows-are) (q .rows-are) j)),
+)
 
-pub front-end-slots-unique : OneState front-end-slots-kinds.ps front-end-slots-kinds.r front-end-slots.Post {S = List ℤ × List ℕ} (λ κs s. (now (s .1 .1 .0), now (s .1 .1 .1 .0)))
+pub front-end-slots-unique : OneState front-end-slots-kinds.ps front-end-slots-kinds.r front-end-slots.Post {S = List ℤ × List ℕ}
+    (λ κs s. (now (s .1 .1 .0), now (s .1 .1 .1 .0)))
 front-end-slots-unique κs a x y s t p q = (alike (p .answer) (q .answer), λ j. (alike (p .numbers-are) (q .numbers-are) j, alike (p .rows-are) (q .rows-are) j))
 
 pub front-end-emptied-unique : OneAnswer front-end-emptied-kinds.ps front-end-emptied-kinds.r front-end-emptied.Post

@@ -14,7 +14,9 @@ data-size-spec =
     tie.close
     (tie.spec
     (λ c κs. search needs) (λ c. search needs) (λ c κs. search needs)
-    (λ c. let h = c .before .before .args .h in omega (arith, c .one .ensures, one-le (h .padding), c .before .unpadded .ensures, any-size (h .version) (h .bitrate) (h .rate)))
+    (λ c. let h = c .before .before .args .h in omega
+    (arith, c .one .ensures, one-le (h .padding), c .before .unpadded .ensures, any-size (h .version) (h .bitrate) (h .rate)))
     (λ c κs. search needs)
-    (λ c. let h = c .before .before .before .args .h in omega (arith, c .header-size .ensures, header-size h, c .before .before .unpadded .ensures, any-size (h .version) (h .bitrate) (h .rate)))
+    (λ c. let h = c .before .before .before .args .h in omega
+    (arith, c .header-size .ensures, header-size h, c .before .before .unpadded .ensures, any-size (h .version) (h .bitrate) (h .rate)))
     (λ c. rw (c .header-size .ensures, c .before .one .ensures, c .before .before .unpadded .ensures)))

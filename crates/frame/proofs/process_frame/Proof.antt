@@ -54,13 +54,21 @@ refused-requires-4 c κs = search needs
 returns-4 : tie.Need-returns-4
 returns-4 c =
     let told-is = c .before .before .enum-told .given .1 in
-    let no-header = sym (c .before .before .before .before .read-frame-header .ensures) ∙ ap toldHeader told-is ∙ sym (ap refused (c .before .refusal-of .ensures ∙ ap reasonOf told-is)) in
+    let no-header = sym (c .before .before .before .before .read-frame-header .ensures) ∙ ap toldHeader told-is
+    ∙ sym (ap refused (c .before .refusal-of .ensures ∙ ap reasonOf told-is)) in
     step-refused
-    (call-fits _ _ _ _ (c .before .before .before .before .before .before .before .before .if1 .left) (c .before .before .before .before .before .before .if2 .left) (c .before .before .before .before .before .if3 .left) ∙ frame-no-header _ _ no-header)
+    (call-fits _ _ _ _ (c .before .before .before .before .before .before .before .before .if1 .left)
+    (c .before .before .before .before .before .before .if2 .left) (c .before .before .before .before .before .if3 .left) ∙ frame-no-header _ _ no-header)
     (c .refused4 .ensures) refl refl
 
 with-header-requires : tie.Need-with-header-requires
-with-header-requires c κs = (c .before .before .before .before .before .before .before .before .before .if1 .left, c .before .before .before .before .before .before .before .if2 .left, c .before .before .before .before .before .before .if3 .left, sym (c .before .before .before .before .before .read-frame-header .ensures) ∙ ap toldHeader (c .before .before .before .a .given .1))
+with-header-requires c κs = (
+  c .before .before .before .before .before .before .before .before .before .if1 .left,
+  c .before .before .before .before .before .before .before .if2 .left,
+  c .before .before .before .before .before .before .if3 .left,
+  sym
+      (c .before .before .before .before .before .read-frame-header .ensures) ∙ ap toldHeader (c .before .before .before .a .given .1),
+)
 
 same-length : tie.Need-same-length
 same-length c = search needs
@@ -71,8 +79,11 @@ same-length-2 c = search needs
 returns-5 : tie.Need-returns-5
 returns-5 c =
     let a = c .before .before .before .before .before .before .before .before .before .before .before .before .before .before .before .before .args in
-    subst (λ p. FrameRead (now (a .bytes)) (a .reservoir) (now (a .numbers)) p (c .before .before .before .with-header .result) (c .before .before .before .with-header .last .1 .1 .0) (c .before .before .before .with-header .last .1 .1 .1 .1 .0))
-    (sym (call-fits _ _ _ _ (c .before .before .before .before .before .before .before .before .before .before .before .before .before .if1 .left) (c .before .before .before .before .before .before .before .before .before .before .before .if2 .left) (c .before .before .before .before .before .before .before .before .before .before .if3 .left))) (c .before .before .before .with-header .ensures)
+    subst (λ p. FrameRead (now (a .bytes)) (a .reservoir) (now (a .numbers)) p (c .before .before .before .with-header .result)
+    (c .before .before .before .with-header .last .1 .1 .0) (c .before .before .before .with-header .last .1 .1 .1 .1 .0))
+    (sym (call-fits _ _ _ _ (c .before .before .before .before .before .before .before .before .before .before .before .before .before .if1 .left)
+    (c .before .before .before .before .before .before .before .before .before .before .before .if2 .left)
+    (c .before .before .before .before .before .before .before .before .before .before .if3 .left))) (c .before .before .before .with-header .ensures)
 
 pub process-frame-spec : {M : Type 1} → statement M
 process-frame-spec =

@@ -22,7 +22,14 @@ lacking-slots-requires c κs = search needs
 
 returns : tie.Need-returns
 unfolding toldOr
-returns c = (refl, c .before .before .before .no-header .ensures, (c .before .before .no-side .ensures (refused (c .before .before .before .before .args .reason)) refl) .value, refl, c .lacking-slots .ensures, refl)
+returns c = (
+  refl,
+  c .before .before .before .no-header .ensures,
+  (c .before .before .no-side .ensures (refused (c .before .before .before .before .args .reason)) refl) .value,
+  refl,
+  c .lacking-slots .ensures,
+  refl,
+)
 
 pub refused-spec : {M : Type 1} → statement M
 refused-spec =

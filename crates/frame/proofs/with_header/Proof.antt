@@ -33,7 +33,10 @@ refused-requires c κs = search needs
 returns : tie.Need-returns
 returns c =
     let o = c .before .before .before .before .before .before .before .before in
-    step-refused (frame-no-side _ _ (o .pre .3) (answered-refused (c .before .before .before .before .before .read-side-info .ensures) (c .before .before .verdict .given .1))) (c .refused .ensures) refl refl
+    step-refused
+    (frame-no-side _ _ (o .pre .3)
+    (answered-refused (c .before .before .before .before .before .read-side-info .ensures) (c .before .before .verdict .given .1)))
+    (c .refused .ensures) refl refl
 
 enum-told : tie.Need-enum-told
 enum-told c = search needs
@@ -47,7 +50,10 @@ refused-requires-2 c κs = search needs
 returns-2 : tie.Need-returns-2
 returns-2 c =
     let o = c .before .before .before .before .before .before .before .before .before in
-    step-refused (frame-absent _ _ (o .pre .3) (answered-told (c .before .before .before .before .before .before .read-side-info .ensures) (c .before .before .before .enum-told .given .1)) (omega (arith, c .before .if1 .taken, c .before .before .frame-length .ensures))) (c .refused2 .ensures) refl refl
+    step-refused
+    (frame-absent _ _ (o .pre .3)
+    (answered-told (c .before .before .before .before .before .before .read-side-info .ensures) (c .before .before .before .enum-told .given .1))
+    (omega (arith, c .before .if1 .taken, c .before .before .frame-length .ensures))) (c .refused2 .ensures) refl refl
 
 header-size-requires : tie.Need-header-size-requires
 header-size-requires c κs = search needs
@@ -58,7 +64,9 @@ side-size-requires c κs = search needs
 add-from : tie.Need-add-from
 add-from c =
     let h = c .before .before .before .before .before .before .before .before .before .before .args .h in
-    let k = side-header _ _ _ (answered-told (c .before .before .before .before .before .before .before .read-side-info .ensures) (c .before .before .before .before .enum-told .given .1)) in
+    let k = side-header _ _ _
+    (answered-told (c .before .before .before .before .before .before .before .read-side-info .ensures)
+    (c .before .before .before .before .enum-told .given .1)) in
     record { fits = omega (arith, c .before .header-size .ensures, c .side-size .ensures, parts h k, frame-length-le h k) }
 
 main-size-requires : tie.Need-main-size-requires
@@ -67,8 +75,13 @@ main-size-requires c κs = search needs
 add-to : tie.Need-add-to
 add-to c =
     let h = c .before .before .before .before .before .before .before .before .before .before .before .args .h in
-    let k = side-header _ _ _ (answered-told (c .before .before .before .before .before .before .before .before .read-side-info .ensures) (c .before .before .before .before .before .enum-told .given .1)) in
-    record { fits = omega (arith, c .before .before .header-size .ensures, c .before .side-size .ensures, c .main-size .ensures, parts h k, frame-length-le h k) }
+    let k = side-header _ _ _
+    (answered-told (c .before .before .before .before .before .before .before .before .read-side-info .ensures)
+    (c .before .before .before .before .before .enum-told .given .1)) in
+    record {
+      fits = omega
+          (arith, c .before .before .header-size .ensures, c .before .side-size .ensures, c .main-size .ensures, parts h k, frame-length-le h k);
+    }
 
 sub-with-main : tie.Need-sub-with-main
 sub-with-main c = search needs
@@ -79,14 +92,25 @@ part-with-main-start c = search needs
 part-with-main-end : tie.Need-part-with-main-end
 part-with-main-end c =
     let h = c .before .before .before .before .before .before .before .before .before .before .before .args .h in
-    let k = side-header _ _ _ (answered-told (c .before .before .before .before .before .before .before .before .read-side-info .ensures) (c .before .before .before .before .before .enum-told .given .1)) in
-    omega (arith, c .before .before .before .if1 .left, c .before .before .before .before .frame-length .ensures, c .before .before .header-size .ensures, c .before .side-size .ensures, c .main-size .ensures, parts h k)
+    let k = side-header _ _ _
+    (answered-told (c .before .before .before .before .before .before .before .before .read-side-info .ensures)
+    (c .before .before .before .before .before .enum-told .given .1)) in
+    omega (
+      arith,
+      c .before .before .before .if1 .left,
+      c .before .before .before .before .frame-length .ensures,
+      c .before .before .header-size .ensures,
+      c .before .side-size .ensures,
+      c .main-size .ensures,
+      parts h k,
+    )
 
 with-main-requires : tie.Need-with-main-requires
 with-main-requires c κs =
     let o = c .before .before .before .before .before .before .before .before .before .before .before .before .before .before in
     let h = o .args .h in
-    let t = answered-told (c .before .before .before .before .before .before .before .before .before .before .before .read-side-info .ensures) (c .before .before .before .before .before .before .before .before .enum-told .given .1) in
+    let t = answered-told (c .before .before .before .before .before .before .before .before .before .before .before .read-side-info .ensures)
+    (c .before .before .before .before .before .before .before .before .enum-told .given .1) in
     let k = side-header _ _ _ t in
     let hs = c .before .before .before .before .before .header-size .ensures in
     let ss = c .before .before .before .before .side-size .ensures in
@@ -96,7 +120,12 @@ with-main-requires c κs =
       o .pre .2,
       k,
       side-known _ _ _ k t,
-      main-length h (now (o .args .frame)) k (omega (arith, c .before .before .before .before .before .before .if1 .left, c .before .before .before .before .before .before .before .frame-length .ensures)) hs ss ms,
+      main-length h (now (o .args .frame)) k
+          (omega (
+            arith,
+            c .before .before .before .before .before .before .if1 .left,
+            c .before .before .before .before .before .before .before .frame-length .ensures,
+          )) hs ss ms,
     )
 
 same-length : tie.Need-same-length
@@ -111,7 +140,16 @@ returns-3 c =
     let hs = c .before .before .before .before .before .before .before .before .before .header-size .ensures in
     let ss = c .before .before .before .before .before .before .before .before .side-size .ensures in
     let ms = c .before .before .before .before .before .before .before .main-size .ensures in
-    whole-frame (now (o .args .frame)) (o .args .h) _ (o .pre .3) (answered-told (c .before .before .before .before .before .before .before .before .before .before .before .before .before .before .before .read-side-info .ensures) (c .before .before .before .before .before .before .before .before .before .before .before .before .enum-told .given .1)) (omega (arith, c .before .before .before .before .before .before .before .before .before .before .if1 .left, c .before .before .before .before .before .before .before .before .before .before .before .frame-length .ensures)) hs ss ms (c .before .before .before .with-main .ensures)
+    whole-frame (now (o .args .frame)) (o .args .h) _ (o .pre .3)
+    (answered-told
+    (c .before .before .before .before .before .before .before .before .before .before .before .before .before .before .before .read-side-info .ensures)
+    (c .before .before .before .before .before .before .before .before .before .before .before .before .enum-told .given .1))
+    (omega (
+      arith,
+      c .before .before .before .before .before .before .before .before .before .before .if1 .left,
+      c .before .before .before .before .before .before .before .before .before .before .before .frame-length .ensures,
+    )) hs ss ms
+    (c .before .before .before .with-main .ensures)
 
 pub with-header-spec : {M : Type 1} → statement M
 with-header-spec =

@@ -34,7 +34,10 @@ same-length c = search needs
 returns : tie.Need-returns
 returns c =
     let o = c .before .before .before .before .before .before .before .before .before .before .before .before in
-    step-short _ refl (fits-turn (o .args .h) (o .args .i) (now (o .args .main)) (o .pre .0) (o .pre .1) (o .pre .3) (o .pre .4) (o .pre .5) (c .before .before .before .before .before .before .before .turn .ensures)) (c .before .before .verdict .given .1) (refl, refl, refl, c .before .before .before .before .before .before .before .before .before .frame-length .ensures, c .lacking-slots .ensures, refl) refl
+    step-short _ refl
+    (fits-turn (o .args .h) (o .args .i) (now (o .args .main)) (o .pre .0) (o .pre .1) (o .pre .3) (o .pre .4) (o .pre .5)
+    (c .before .before .before .before .before .before .before .turn .ensures)) (c .before .before .verdict .given .1)
+    (refl, refl, refl, c .before .before .before .before .before .before .before .before .before .frame-length .ensures, c .lacking-slots .ensures, refl) refl
 
 enum-told : tie.Need-enum-told
 enum-told c = search needs
@@ -42,7 +45,9 @@ enum-told c = search needs
 slice-reshare-prefix-read-slots : tie.Need-slice-reshare-prefix-read-slots
 slice-reshare-prefix-read-slots c =
     let o = c .before .before .before .before .before .before .before .before .before .before in
-    kept-within _ (fits-turn (o .args .h) (o .args .i) (now (o .args .main)) (o .pre .0) (o .pre .1) (o .pre .3) (o .pre .4) (o .pre .5) (c .before .before .before .before .before .turn .ensures))
+    kept-within _
+    (fits-turn (o .args .h) (o .args .i) (now (o .args .main)) (o .pre .0) (o .pre .1) (o .pre .3) (o .pre .4) (o .pre .5)
+    (c .before .before .before .before .before .turn .ensures))
 
 slice-aggregate-read-slots : tie.Need-slice-aggregate-read-slots
 slice-aggregate-read-slots c = sym (length-take-le _ _ (slice-reshare-prefix-read-slots (c .before)))
@@ -59,7 +64,11 @@ same-length-3 c = search needs
 returns-2 : tie.Need-returns-2
 returns-2 c =
     let o = c .before .before .before .before .before .before .before .before .before .before .before .before .before .before .before in
-    step-full _ refl (fits-turn (o .args .h) (o .args .i) (now (o .args .main)) (o .pre .0) (o .pre .1) (o .pre .3) (o .pre .4) (o .pre .5) (c .before .before .before .before .before .before .before .before .before .before .turn .ensures)) (c .before .before .before .before .before .enum-told .given .1) (o .pre .2) (o .pre .3) (o .pre .4) (c .before .before .read-slots .ensures) (refl, refl, refl, c .before .before .before .before .before .before .before .before .before .before .before .before .frame-length .ensures, refl, refl)
+    step-full _ refl
+    (fits-turn (o .args .h) (o .args .i) (now (o .args .main)) (o .pre .0) (o .pre .1) (o .pre .3) (o .pre .4) (o .pre .5)
+    (c .before .before .before .before .before .before .before .before .before .before .turn .ensures))
+    (c .before .before .before .before .before .enum-told .given .1) (o .pre .2) (o .pre .3) (o .pre .4) (c .before .before .read-slots .ensures)
+    (refl, refl, refl, c .before .before .before .before .before .before .before .before .before .before .before .before .frame-length .ensures, refl, refl)
 
 pub with-main-spec : {M : Type 1} → statement M
 with-main-spec =

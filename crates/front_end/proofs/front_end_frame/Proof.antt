@@ -32,7 +32,9 @@ same-length-3 : tie.Need-same-length-3
 same-length-3 c = search needs
 
 returns-2 : tie.Need-returns-2
-returns-2 c = frame-done (room-fits _ _ _ _ _ (c .before .before .before .before .before .before .before .before .before .before .before .before .if1 .left)) (c .before .before .before .before .before .before .before .before .before .process-frame .ensures) (c .before .before .tell .ensures)
+returns-2 c =
+    frame-done (room-fits _ _ _ _ _ (c .before .before .before .before .before .before .before .before .before .before .before .before .if1 .left))
+    (c .before .before .before .before .before .before .before .before .before .process-frame .ensures) (c .before .before .tell .ensures)
 
 pub front-end-frame-spec : {M : Type 1} → statement M
 front-end-frame-spec =

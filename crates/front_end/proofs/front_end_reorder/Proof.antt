@@ -32,13 +32,16 @@ enum-known-h : tie.Need-enum-known-h
 enum-known-h c = search needs
 
 reorder-under-requires : tie.Need-reorder-under-requires
-reorder-under-requires c κs = (search needs, sym (c .before .before .before .before .read-frame-header .ensures) ∙ ap toldHeader (c .before .before .h .given .1))
+reorder-under-requires c κs =
+    (search needs, sym (c .before .before .before .before .read-frame-header .ensures) ∙ ap toldHeader (c .before .before .h .given .1))
 
 returns-2 : tie.Need-returns-2
 returns-2 c =
     let a = c .before .before .before .before .before .before .before .args in
     let why = c .before .before .why .given in
-    reorder-refused (why .0 .0) (reorder-fits (now (a .frame)) (a .slot) (now (a .numbers)) (c .before .before .before .before .before .if1 .left) ∙ under-no-header _ _ (sym (c .before .before .before .before .read-frame-header .ensures) ∙ ap toldHeader (why .1))) (c .number-of2 .ensures) refl
+    reorder-refused (why .0 .0)
+    (reorder-fits (now (a .frame)) (a .slot) (now (a .numbers)) (c .before .before .before .before .before .if1 .left)
+    ∙ under-no-header _ _ (sym (c .before .before .before .before .read-frame-header .ensures) ∙ ap toldHeader (why .1))) (c .number-of2 .ensures) refl
 
 same-length : tie.Need-same-length
 same-length c = search needs

@@ -41,7 +41,8 @@ returns c =
 -- src/lib.rt:199:1
 returns-2 : tie.Need-returns-2
 returns-2 c =
-    c .sizes-of .ensures ∙ sym (ap sizesTold (sym (c .before .before .before .before .read-frame-header .ensures) ∙ ap toldHeader (c .before .before .h .given .1)))
+    c .sizes-of .ensures
+    ∙ sym (ap sizesTold (sym (c .before .before .before .before .read-frame-header .ensures) ∙ ap toldHeader (c .before .before .h .given .1)))
 
 pub front-end-sizes-spec : {M : Type 1} → statement M
 front-end-sizes-spec =

@@ -35,14 +35,20 @@ enum-known-h c = search needs
 
 slots-under-requires : tie.Need-slots-under-requires
 slots-under-requires c κs =
-    let fit = neither-of _ _ (c .before .before .before .before .before .before .if1 .left) in
-    (ltb-false _ _ (fit .0), ltb-false _ _ (fit .1), sym (c .before .before .before .before .before .read-frame-header .ensures) ∙ ap toldHeader (c .before .before .before .h .given .1))
+    let fit = neither-of _ _ (c .before .before .before .before .before .before .if1 .left) in (
+      ltb-false _ _ (fit .0),
+      ltb-false _ _ (fit .1),
+      sym (c .before .before .before .before .before .read-frame-header .ensures)
+          ∙ ap toldHeader (c .before .before .before .h .given .1),
+    )
 
 returns-2 : tie.Need-returns-2
 returns-2 c =
     let a = c .before .before .before .before .before .before .before .before .before .args in
     let why = c .before .before .why .given in
-    slots-refused (why .0 .0) (slots-fit (now (a .frame)) (now (a .main)) _ _ (c .before .before .before .before .before .if1 .left) ∙ under-no-header _ _ (sym (c .before .before .before .before .read-frame-header .ensures) ∙ ap toldHeader (why .1))) (c .number-of2 .ensures) refl refl
+    slots-refused (why .0 .0)
+    (slots-fit (now (a .frame)) (now (a .main)) _ _ (c .before .before .before .before .before .if1 .left)
+    ∙ under-no-header _ _ (sym (c .before .before .before .before .read-frame-header .ensures) ∙ ap toldHeader (why .1))) (c .number-of2 .ensures) refl refl
 
 same-length : tie.Need-same-length
 same-length c = search needs

@@ -32,7 +32,10 @@ returns c =
     let o = c .before .before .before .before .before .before .before in
     let a = o .args in
     let why = c .before .before .verdict .given in
-    reorder-refused (why .0 .0) (reorder-fits (now (a .frame)) (a .slot) (now (a .numbers)) (o .pre .0) ∙ under-no-side _ _ (o .pre .1) (answered-refused (c .before .before .before .before .before .read-side-info .ensures) (why .1))) (c .number-of .ensures) refl
+    reorder-refused (why .0 .0)
+    (reorder-fits (now (a .frame)) (a .slot) (now (a .numbers)) (o .pre .0)
+    ∙ under-no-side _ _ (o .pre .1) (answered-refused (c .before .before .before .before .before .read-side-info .ensures) (why .1)))
+    (c .number-of .ensures) refl
 
 enum-told : tie.Need-enum-told
 enum-told c = search needs
@@ -44,7 +47,11 @@ channel-count-requires : tie.Need-channel-count-requires
 channel-count-requires c κs = search needs
 
 mul-if1 : tie.Need-mul-if1
-mul-if1 c = record { fits = omega (arith, four-slots (c .before .before .before .before .before .before .before .args .h) (c .before .granules .ensures) (c .channel-count .ensures)) }
+mul-if1 c =
+    record {
+      fits = omega
+          (arith, four-slots (c .before .before .before .before .before .before .before .args .h) (c .before .granules .ensures) (c .channel-count .ensures));
+    }
 
 element-copy-out-r : tie.Need-element-copy-out-r
 element-copy-out-r c =
@@ -68,10 +75,14 @@ returns-2 c =
     let o = c .before .before .before .before .before .before .before .before .before .before .before .before .before in
     let a = o .args in
     let i = c .before .before .before .before .before .before .before .before .before .before .before .read-side-info .result .info in
-    let there = subst (λ (x : ℕ). a .slot < x) (λ j. c .before .before .before .before .before .before .before .granules .ensures j * c .before .before .before .before .before .before .channel-count .ensures j) (c .before .before .before .before .before .if1 .taken) in
+    let there = subst (λ (x : ℕ). a .slot < x)
+    (λ j. c .before .before .before .before .before .before .before .granules .ensures j * c .before .before .before .before .before .before .channel-count .ensures j)
+    (c .before .before .before .before .before .if1 .taken) in
     reorder-done
     (reorder-fits (now (a .frame)) (a .slot) (now (a .numbers)) (o .pre .0)
-    ∙ under-both _ _ (o .pre .1) (answered-told (c .before .before .before .before .before .before .before .before .before .before .before .read-side-info .ensures) (c .before .before .before .before .before .before .before .before .enum-told .given .1))
+    ∙ under-both _ _ (o .pre .1)
+    (answered-told (c .before .before .before .before .before .before .before .before .before .before .before .read-side-info .ensures)
+    (c .before .before .before .before .before .before .before .before .enum-told .given .1))
     ∙ reorder-there (now (a .frame)) (a .slot) (now (a .numbers)) (a .h) i there)
     (c .before .before .reorder .ensures) (c .verdict-number .ensures)
 
@@ -83,10 +94,13 @@ returns-3 c =
     let o = c .before .before .before .before .before .before .before .before .before in
     let a = o .args in
     let i = c .before .before .before .before .before .before .before .read-side-info .result .info in
-    let lacking = subst (λ (x : ℕ). x ≤ a .slot) (λ j. c .before .before .before .granules .ensures j * c .before .before .channel-count .ensures j) (c .before .if1 .left) in
+    let lacking = subst (λ (x : ℕ). x ≤ a .slot) (λ j. c .before .before .before .granules .ensures j * c .before .before .channel-count .ensures j)
+    (c .before .if1 .left) in
     reorder-refused MadeUpRecord
     (reorder-fits (now (a .frame)) (a .slot) (now (a .numbers)) (o .pre .0)
-    ∙ under-both _ _ (o .pre .1) (answered-told (c .before .before .before .before .before .before .before .read-side-info .ensures) (c .before .before .before .before .enum-told .given .1))
+    ∙ under-both _ _ (o .pre .1)
+    (answered-told (c .before .before .before .before .before .before .before .read-side-info .ensures)
+    (c .before .before .before .before .enum-told .given .1))
     ∙ reorder-lacking (now (a .frame)) (a .slot) (now (a .numbers)) (a .h) i lacking)
     (c .number-of2 .ensures) refl
 

@@ -29,7 +29,10 @@ returns c =
     let o = c .before .before .before .before .before .before .before .before .before in
     let a = o .args in
     let why = c .before .before .verdict .given in
-    slots-refused (why .0 .0) (slots-fit (now (a .frame)) (now (a .main)) _ _ (neither (le-ltb _ _ (o .pre .0)) (le-ltb _ _ (o .pre .1))) ∙ under-no-side _ _ (o .pre .2) (answered-refused (c .before .before .before .before .before .read-side-info .ensures) (why .1))) (c .number-of .ensures) refl refl
+    slots-refused (why .0 .0)
+    (slots-fit (now (a .frame)) (now (a .main)) _ _ (neither (le-ltb _ _ (o .pre .0)) (le-ltb _ _ (o .pre .1)))
+    ∙ under-no-side _ _ (o .pre .2) (answered-refused (c .before .before .before .before .before .read-side-info .ensures) (why .1)))
+    (c .number-of .ensures) refl refl
 
 enum-told : tie.Need-enum-told
 enum-told c = search needs
@@ -50,7 +53,12 @@ returns-2 : tie.Need-returns-2
 returns-2 c =
     let o = c .before .before .before .before .before .before .before .before .before .before .before .before .before .before .before in
     let a = o .args in
-    slots-done (slots-fit (now (a .frame)) (now (a .main)) _ _ (neither (le-ltb _ _ (o .pre .0)) (le-ltb _ _ (o .pre .1))) ∙ under-both _ _ (o .pre .2) (answered-told (c .before .before .before .before .before .before .before .before .before .before .before .read-side-info .ensures) (c .before .before .before .before .before .before .before .before .enum-told .given .1))) (c .before .before .before .before .before .before .read-slots .ensures) (c .before .before .tell .ensures)
+    slots-done
+    (slots-fit (now (a .frame)) (now (a .main)) _ _ (neither (le-ltb _ _ (o .pre .0)) (le-ltb _ _ (o .pre .1)))
+    ∙ under-both _ _ (o .pre .2)
+    (answered-told (c .before .before .before .before .before .before .before .before .before .before .before .read-side-info .ensures)
+    (c .before .before .before .before .before .before .before .before .enum-told .given .1)))
+    (c .before .before .before .before .before .before .read-slots .ensures) (c .before .before .tell .ensures)
 
 pub slots-under-spec : {M : Type 1} → statement M
 slots-under-spec =

@@ -11,4 +11,5 @@ fields-spec =
     (tie.spec
     (λ c κs. search needs) (λ c κs. search needs) (λ c κs. search needs) (λ c κs. search needs) (λ c κs. search needs) (λ c. search needs)
     (λ c. search needs) (λ c. search needs) (λ c. search needs) (λ c. search needs)
-    (λ c. let d = c .before .before in let e = d .before .before .before in rw (d .emphasis-of .ensures, d .before .channels-of .ensures, d .before .before .rates .ensures, e .bitrates .ensures, e .before .version-of .ensures)))
+    (λ c. let d = c .before .before in let e = d .before .before .before in rw
+    (d .emphasis-of .ensures, d .before .channels-of .ensures, d .before .before .rates .ensures, e .bitrates .ensures, e .before .version-of .ensures)))

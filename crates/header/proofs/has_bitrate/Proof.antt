@@ -10,7 +10,9 @@ use Rattle.header.proofs.has_bitrate.Statement.{statement}
 use Rattle.header.proofs.has_bitrate.Tie as tie
 
 -- in MPEG-1, after the call of `within`
-of-mpeg1 : (c : tie.After-within) → (c .within .result && not (eqb (c .before .before .before .bps .result) 144000)) ≡ member sameBitrate (c .before .before .before .before .args .b) (bitrates (c .before .before .before .before .args .v))
+of-mpeg1 : (c : tie.After-within)
+    → (c .within .result && not (eqb (c .before .before .before .bps .result) 144000))
+    ≡ member sameBitrate (c .before .before .before .before .args .b) (bitrates (c .before .before .before .before .args .v))
 of-mpeg1 c =
     let d = c .before .before in
     let a = d .before .before .args in
@@ -25,4 +27,5 @@ has-bitrate-spec =
     (λ c. rw (← of-mpeg1 (c .before), c .if2 .taken))
     (λ c. rw (← of-mpeg1 (c .before), c .if2 .left))
     (λ c κs. search needs)
-    (λ c. let d = c .before .before in let a = d .before .before .args in rw (as-mpeg2 bitrates refl (a .v) (sym (d .is-mpeg1 .ensures) ∙ c .before .if1 .left), bitrate-rows (a .b) .1, c .within2 .ensures, d .before .bps .ensures)))
+    (λ c. let d = c .before .before in let a = d .before .before .args in rw
+    (as-mpeg2 bitrates refl (a .v) (sym (d .is-mpeg1 .ensures) ∙ c .before .if1 .left), bitrate-rows (a .b) .1, c .within2 .ensures, d .before .bps .ensures)))

@@ -34,8 +34,17 @@ last-bytes-spec =
     (tie.spec
     (λ c. search needs) (λ c. search needs) (λ c. search needs)
     (λ c. simp (eq-eqb _ _ (c .if1 .taken)))
-    (λ c. let p = ne-eqb _ _ (c .before .if1 .left) in ⊎-elim (λ w. simp (p, eq-eqb _ _ (w .taken))) (λ w. simp (p, ne-eqb _ _ (w .0 .left), w .1 .taken)) (c .if2 .came))
+    (λ c. let p = ne-eqb _ _ (c .before .if1 .left) in ⊎-elim (λ w. simp (p, eq-eqb _ _ (w .taken))) (λ w. simp (p, ne-eqb _ _ (w .0 .left), w .1 .taken))
+    (c .if2 .came))
     (λ c. let d = c .before in simp (ne-eqb _ _ (d .before .before .if1 .left), ne-eqb _ _ (d .before .if2 .left), d .if3 .left, eq-eqb _ _ (c .if4 .taken)))
-    (λ c. let d = c .before .before in simp (ne-eqb _ _ (d .before .before .before .if1 .left), ne-eqb _ _ (d .before .before .if2 .left), d .before .if3 .left, ne-eqb _ _ (d .if4 .left), eq-eqb _ _ (c .before .if5 .taken), rw leb·suc-suc at (c .if6 .taken)))
+    (λ c. let d = c .before .before in simp (
+      ne-eqb _ _ (d .before .before .before .if1 .left),
+      ne-eqb _ _ (d .before .before .if2 .left),
+      d .before .if3 .left,
+      ne-eqb _ _ (d .if4 .left),
+      eq-eqb _ _
+          (c .before .if5 .taken),
+      rw leb·suc-suc at (c .if6 .taken),
+    ))
     fields-requires
     read)

@@ -19,4 +19,5 @@ read-frame-header-spec =
     (λ c. simp (lt-leb _ _ (c .before .before .if1 .left), ne-eqb _ _ (c .if2 .taken)))
     (λ c. simp (lt-leb _ _ (c .before .before .before .if1 .left), eq-eqb _ _ (c .before .if2 .left), le-leb _ _ (le-of-suc-le-suc (c .if3 .taken))))
     (λ c κs. search needs)
-    (λ c. let d = c .before in c .second-byte .ensures ∙ simp (lt-leb _ _ (d .before .before .before .if1 .left), eq-eqb _ _ (d .before .if2 .left), lt-leb _ _ (d .if3 .left))))
+    (λ c. let d = c .before in c .second-byte .ensures
+    ∙ simp (lt-leb _ _ (d .before .before .before .if1 .left), eq-eqb _ _ (d .before .if2 .left), lt-leb _ _ (d .if3 .left))))

@@ -25,7 +25,9 @@ enum-told : tie.Need-enum-told
 enum-told c = search needs
 
 returns-2 : tie.Need-returns-2
-returns-2 c = no-regions _ _ _ _ _ _ _ (c .before .before .before .if1 .left) (c .before .before .before .before .before .before .pre .1) (sym (c .enum-told .given .1) ∙ c .before .before .regions-of .ensures)
+returns-2 c =
+    no-regions _ _ _ _ _ _ _ (c .before .before .before .if1 .left) (c .before .before .before .before .before .before .pre .1)
+    (sym (c .enum-told .given .1) ∙ c .before .before .regions-of .ensures)
 
 cast-n : tie.Need-cast-n
 cast-n c = search needs
@@ -50,11 +52,19 @@ read-quads-requires c κs = search needs
 
 returns-3 : tie.Need-returns-3
 returns-3 c =
-    pairs-halted _ _ _ _ _ _ _ (c .before .before .before .before .before .before .before .before .before .before .before .if1 .left) _ _ _ _ _ (sym (c .before .before .before .before .before .before .before .before .first .given .1) ∙ c .before .before .before .before .before .before .before .before .before .before .regions-of .ensures) refl (c .before .before .before .read-pairs .ensures) _ (c .before .why .given .1)
+    pairs-halted _ _ _ _ _ _ _ (c .before .before .before .before .before .before .before .before .before .before .before .if1 .left) _ _ _ _ _
+    (sym (c .before .before .before .before .before .before .before .before .first .given .1)
+    ∙ c .before .before .before .before .before .before .before .before .before .before .regions-of .ensures) refl
+    (c .before .before .before .read-pairs .ensures) _ (c .before .why .given .1)
 
 returns-4 : tie.Need-returns-4
 returns-4 c =
-    quads-read _ _ _ _ _ _ _ (c .before .before .before .before .before .before .before .before .before .before .before .before .before .before .if1 .left) _ _ _ _ _ (sym (c .before .before .before .before .before .before .before .before .before .before .before .first .given .1) ∙ c .before .before .before .before .before .before .before .before .before .before .before .before .before .regions-of .ensures) refl (c .before .before .before .before .before .before .read-pairs .ensures) _ _ _ _ (c .before .before .before .before .place .given .1) (c .before .before .quad-table .ensures) (c .read-quads .ensures)
+    quads-read _ _ _ _ _ _ _
+    (c .before .before .before .before .before .before .before .before .before .before .before .before .before .before .if1 .left) _ _ _ _ _
+    (sym (c .before .before .before .before .before .before .before .before .before .before .before .first .given .1)
+    ∙ c .before .before .before .before .before .before .before .before .before .before .before .before .before .regions-of .ensures) refl
+    (c .before .before .before .before .before .before .read-pairs .ensures) _ _ _ _ (c .before .before .before .before .place .given .1)
+    (c .before .before .quad-table .ensures) (c .read-quads .ensures)
 
 pub decode-spec : {M : Type 1} → statement M
 decode-spec =

@@ -34,16 +34,24 @@ copy-in-requires c κs = search needs
 
 returns-3 : tie.Need-returns-3
 returns-3 c =
-    refused-as _ _ _ (slot-fits _ _ _ _ _ (c .before .before .before .before .before .before .before .if1 .left) (c .before .before .before .before .before .if2 .left) ∙ whole-halted _ _ _ _ _ (c .before .before .before .decode .ensures) (c .before .why .given .1))
+    refused-as _ _ _
+    (slot-fits _ _ _ _ _ (c .before .before .before .before .before .before .before .if1 .left) (c .before .before .before .before .before .if2 .left)
+    ∙ whole-halted _ _ _ _ _ (c .before .before .before .decode .ensures) (c .before .why .given .1))
 
 same-length : tie.Need-same-length
 same-length c = search needs
 
 returns-4 : tie.Need-returns-4
 returns-4 c =
-    let e = slot-fits _ _ _ _ _ (c .before .before .before .before .before .before .before .before .before .before .before .if1 .left) (c .before .before .before .before .before .before .before .before .before .if2 .left) in
-    let w = whole-read _ _ _ _ (c .before .before .before .before .before .before .before .decode .ensures) (c .before .before .before .before .before .count .given .1) _ _ (c .before .copy-in .ensures) in
-    (w .0 ∙ ap countOf (sym e), w .1 ∙ ap (λ (q : Numbers). numbersAfter q (now (c .before .before .before .before .before .before .before .before .before .before .before .before .before .before .args .numbers))) (sym e))
+    let e = slot-fits _ _ _ _ _ (c .before .before .before .before .before .before .before .before .before .before .before .if1 .left)
+    (c .before .before .before .before .before .before .before .before .before .if2 .left) in
+    let w = whole-read _ _ _ _ (c .before .before .before .before .before .before .before .decode .ensures)
+    (c .before .before .before .before .before .count .given .1) _ _ (c .before .copy-in .ensures) in (
+      w .0 ∙ ap countOf (sym e),
+      w .1
+          ∙ ap (λ (q : Numbers). numbersAfter q
+          (now (c .before .before .before .before .before .before .before .before .before .before .before .before .before .before .args .numbers))) (sym e),
+    )
 
 pub read-huffman-spec : {M : Type 1} → statement M
 read-huffman-spec =

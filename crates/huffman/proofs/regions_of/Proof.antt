@@ -22,7 +22,8 @@ enum-told-2 c = search needs
 returns : tie.Need-returns
 returns c =
     let a = c .before .before .before .before .args in
-    c .long-regions .ensures ∙ ap (λ (k : Shape). regionsBy k (a .rate) (a .r)) (sym (c .before .enum-told .given .1) ∙ c .before .before .before .shape-of .ensures)
+    c .long-regions .ensures
+    ∙ ap (λ (k : Shape). regionsBy k (a .rate) (a .r)) (sym (c .before .enum-told .given .1) ∙ c .before .before .before .shape-of .ensures)
 
 returns-2 : tie.Need-returns-2
 unfolding regionsBy

@@ -18,7 +18,9 @@ same-length : tie.Need-same-length
 same-length c = search needs
 
 returns : tie.Need-returns
-returns c = slid-read (c .before .before .before .before .before .before .slid .ensures) (c .before .before .before .before .before .before .slid .kept .0) (c .before .before .read-on .ensures)
+returns c =
+    slid-read (c .before .before .before .before .before .before .slid .ensures) (c .before .before .before .before .before .before .slid .kept .0)
+    (c .before .before .read-on .ensures)
 
 pub fill-spec : {M : Type 1} → statement M
 fill-spec = tie.close (tie.spec slid-requires read-on-requires same-length returns)

@@ -41,10 +41,15 @@ up-to-requires : tie.Need-up-to-requires Inv-loop μ-loop
 up-to-requires c κs = search needs
 
 same-length : tie.Need-same-length Inv-loop μ-loop
-same-length c = behind (c .before .before .before .before .before .before .before .before .loop .inv) (c .before .before .before .before .before .read-once .last .1 .0) (c .before .before .before .before .before .read-once .kept .1 .0) .long
+same-length c =
+    behind (c .before .before .before .before .before .before .before .before .loop .inv) (c .before .before .before .before .before .read-once .last .1 .0)
+    (c .before .before .before .before .before .read-once .kept .1 .0) .long
 
 returns : tie.Need-returns Inv-loop μ-loop
-returns c = told-so (behind (c .before .before .before .before .before .before .before .before .loop .inv) (c .before .before .before .before .before .read-once .last .1 .0) (c .before .before .before .before .before .read-once .kept .1 .0)) (c .up-to .ensures) not-failed
+returns c =
+    told-so (behind (c .before .before .before .before .before .before .before .before .loop .inv)
+    (c .before .before .before .before .before .read-once .last .1 .0) (c .before .before .before .before .before .read-once .kept .1 .0))
+    (c .up-to .ensures) not-failed
 
 enum-told-2 : tie.Need-enum-told-2 Inv-loop μ-loop
 enum-told-2 c = search needs
@@ -53,22 +58,62 @@ up-to-requires-2 : tie.Need-up-to-requires-2 Inv-loop μ-loop
 up-to-requires-2 c κs = search needs
 
 same-length-2 : tie.Need-same-length-2 Inv-loop μ-loop
-same-length-2 c = behind (c .before .before .before .before .before .before .before .before .loop .inv) (c .before .before .before .before .before .read-once .last .1 .0) (c .before .before .before .before .before .read-once .kept .1 .0) .long
+same-length-2 c =
+    behind (c .before .before .before .before .before .before .before .before .loop .inv) (c .before .before .before .before .before .read-once .last .1 .0)
+    (c .before .before .before .before .before .read-once .kept .1 .0) .long
 
 returns-2 : tie.Need-returns-2 Inv-loop μ-loop
-returns-2 c = told-so (behind (c .before .before .before .before .before .before .before .before .loop .inv) (c .before .before .before .before .before .read-once .last .1 .0) (c .before .before .before .before .before .read-once .kept .1 .0)) (c .up-to2 .ensures) not-ended
+returns-2 c =
+    told-so (behind (c .before .before .before .before .before .before .before .before .loop .inv)
+    (c .before .before .before .before .before .read-once .last .1 .0) (c .before .before .before .before .before .read-once .kept .1 .0))
+    (c .up-to2 .ensures) not-ended
 
 enum-known-more : tie.Need-enum-known-more Inv-loop μ-loop
 enum-known-more c = search needs
 
 add-end : tie.Need-add-end Inv-loop μ-loop
-add-end c = omega (arith, got-some (c .before .more .given .1) (c .before .before .before .before .before .read-once .ensures), mid-len (c .before .before .before .before .before .before .before .before .loop .end) (length (c .before .before .before .before .before .before .before .before .loop .bytes)) (c .before .before .before .before .before .before .before .before .loop .bytes) (omega arith), c .before .before .before .before .before .before .before .before .loop .inv .within, c .before .before .before .before .before .before .before .before .loop .inv .long)
+add-end c =
+    omega (
+      arith,
+      got-some (c .before .more .given .1) (c .before .before .before .before .before .read-once .ensures),
+      mid-len
+          (c .before .before .before .before .before .before .before .before .loop .end)
+          (length (c .before .before .before .before .before .before .before .before .loop .bytes))
+          (c .before .before .before .before .before .before .before .before .loop .bytes)
+          (omega arith),
+      c .before .before .before .before .before .before .before .before .loop .inv .within,
+      c .before .before .before .before .before .before .before .before .loop .inv .long,
+    )
 
 loop-less : tie.Need-loop-less Inv-loop μ-loop
-loop-less c = omega (arith, got-some (c .before .more .given .1) (c .before .before .before .before .before .read-once .ensures), mid-len (c .before .before .before .before .before .before .before .before .loop .end) (length (c .before .before .before .before .before .before .before .before .loop .bytes)) (c .before .before .before .before .before .before .before .before .loop .bytes) (omega arith), c .before .before .before .before .before .before .before .before .loop .inv .within, c .before .before .before .before .before .before .before .before .loop .inv .long)
+loop-less c =
+    omega (
+      arith,
+      got-some (c .before .more .given .1) (c .before .before .before .before .before .read-once .ensures),
+      mid-len
+          (c .before .before .before .before .before .before .before .before .loop .end)
+          (length (c .before .before .before .before .before .before .before .before .loop .bytes))
+          (c .before .before .before .before .before .before .before .before .loop .bytes)
+          (omega arith),
+      c .before .before .before .before .before .before .before .before .loop .inv .within,
+      c .before .before .before .before .before .before .before .before .loop .inv .long,
+    )
 
 loop-again : tie.Need-loop-again Inv-loop μ-loop
-loop-again c = onward (behind (c .before .before .before .before .before .before .before .before .loop .inv) (c .before .before .before .before .before .read-once .last .1 .0) (c .before .before .before .before .before .read-once .kept .1 .0)) _ (omega (arith, got-some (c .before .more .given .1) (c .before .before .before .before .before .read-once .ensures), mid-len (c .before .before .before .before .before .before .before .before .loop .end) (length (c .before .before .before .before .before .before .before .before .loop .bytes)) (c .before .before .before .before .before .before .before .before .loop .bytes) (omega arith), c .before .before .before .before .before .before .before .before .loop .inv .within, c .before .before .before .before .before .before .before .before .loop .inv .long))
+loop-again c =
+    onward (behind (c .before .before .before .before .before .before .before .before .loop .inv)
+    (c .before .before .before .before .before .read-once .last .1 .0) (c .before .before .before .before .before .read-once .kept .1 .0)) _
+    (omega (
+      arith,
+      got-some (c .before .more .given .1) (c .before .before .before .before .before .read-once .ensures),
+      mid-len
+          (c .before .before .before .before .before .before .before .before .loop .end)
+          (length (c .before .before .before .before .before .before .before .before .loop .bytes))
+          (c .before .before .before .before .before .before .before .before .loop .bytes)
+          (omega arith),
+      c .before .before .before .before .before .before .before .before .loop .inv .within,
+      c .before .before .before .before .before .before .before .before .loop .inv .long,
+    ))
 
 up-to-requires-3 : tie.Need-up-to-requires-3 Inv-loop μ-loop
 up-to-requires-3 c κs = search needs
@@ -77,7 +122,8 @@ same-length-3 : tie.Need-same-length-3 Inv-loop μ-loop
 same-length-3 c = c .before .before .loop .inv .long
 
 returns-3 : tie.Need-returns-3 Inv-loop μ-loop
-returns-3 c = told-so (c .before .before .loop .inv) (c .up-to3 .ensures) (λ e. omega (arith, c .before .before .loop .inv .within, c .before .before .loop .inv .long))
+returns-3 c =
+    told-so (c .before .before .loop .inv) (c .up-to3 .ensures) (λ e. omega (arith, c .before .before .loop .inv .within, c .before .before .loop .inv .long))
 
 pub read-on-spec : {M : Type 1} → statement M
 read-on-spec =

@@ -41,8 +41,11 @@ loop-less : tie.Need-loop-less Inv-loop μ-loop
 loop-less c = omega arith
 
 loop-again : tie.Need-loop-again Inv-loop μ-loop
-loop-again c =
-    (omega arith, copying-turn _ _ _ _ _ (c .before .before .loop .inv .1) 0 _ _ refl refl (omega (arith, c .before .before .before .room-for .ensures)) (omega (arith, c .before .before .before .room-for .ensures)))
+loop-again c = (
+  omega arith,
+  copying-turn _ _ _ _ _ (c .before .before .loop .inv .1) 0 _ _ refl refl (omega (arith, c .before .before .before .room-for .ensures))
+      (omega (arith, c .before .before .before .room-for .ensures)),
+)
 
 add-result : tie.Need-add-result Inv-loop μ-loop
 add-result c = omega (arith, c .before .before .room-for .ensures)
@@ -54,7 +57,9 @@ returns : tie.Need-returns Inv-loop μ-loop
 unfolding roomFor
 returns c = record {
   next = ap (λ (n : ℕ). c .before .before .before .before .before .args .at + n) (c .before .before .room-for .ensures);
-  bytes = copying-end _ _ _ _ _ (c .before .loop .inv .1) _ (let e : c .before .loop .i ≡ c .before .before .room-for .result = omega arith in e ∙ c .before .before .room-for .ensures);
+  bytes =
+      copying-end _ _ _ _ _ (c .before .loop .inv .1) _
+      (let e : c .before .loop .i ≡ c .before .before .room-for .result = omega arith in e ∙ c .before .before .room-for .ensures);
 }
 
 pub put-spec : {M : Type 1} → statement M

@@ -43,7 +43,8 @@ loop-again : tie.Need-loop-again Inv-loop μ-loop
 loop-again c =
     let a = c .before .before .before .before .before .args in (
       omega arith,
-      copying-turn _ _ _ _ _ (c .before .before .loop .inv .1) 0 _ _ (omega arith) (slide-next _ _ (a .from) (c .before .before .loop .i) 0 (c .before .before .loop .inv .1) (omega arith)) (omega arith)
+      copying-turn _ _ _ _ _ (c .before .before .loop .inv .1) 0 _ _ (omega arith)
+          (slide-next _ _ (a .from) (c .before .before .loop .i) 0 (c .before .before .loop .inv .1) (omega arith)) (omega arith)
           (simp length-drop (omega arith)),
     )
 
@@ -52,7 +53,9 @@ same-length c = c .before .loop .inv .1 .long
 
 returns : tie.Need-returns Inv-loop μ-loop
 unfolding slidOf
-returns c = copying-end _ _ _ _ _ (c .before .loop .inv .1) _ (let e : c .before .loop .i ≡ c .before .before .room-for .result = omega arith in e ∙ c .before .before .room-for .ensures)
+returns c =
+    copying-end _ _ _ _ _ (c .before .loop .inv .1) _
+    (let e : c .before .loop .i ≡ c .before .before .room-for .result = omega arith in e ∙ c .before .before .room-for .ensures)
 
 pub slide-spec : {M : Type 1} → statement M
 slide-spec =

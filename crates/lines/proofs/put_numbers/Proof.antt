@@ -57,8 +57,14 @@ loop-again c =
     let vs = now (c .before .before .before .before .before .before .before .before .before .before .before .before .before .args .numbers) in
     let i = c .before .before .before .before .before .before .before .before .before .before .before .loop .i in
     let h : i < length vs = omega arith in
-    let f : SFits w32 (getD vs i (pos 0)) = search needs in
-    (omega arith, put-same (sym (text-next vs i (pos 0) h)) (put-then (put-then (c .before .before .before .before .before .before .before .before .before .before .before .loop .inv .1) (c .before .before .before .before .before .before .before .put .ensures)) (put-same (ap signedOf (toZ-ofZ w32 _ f)) (c .before .before .put-signed .ensures))))
+    let f : SFits w32 (getD vs i (pos 0)) = search needs in (
+      omega arith,
+      put-same (sym (text-next vs i (pos 0) h))
+          (put-then
+          (put-then (c .before .before .before .before .before .before .before .before .before .before .before .loop .inv .1)
+          (c .before .before .before .before .before .before .before .put .ensures))
+          (put-same (ap signedOf (toZ-ofZ w32 _ f)) (c .before .before .put-signed .ensures))),
+    )
 
 same-length : tie.Need-same-length Inv-loop μ-loop
 same-length c = put-long (c .before .loop .inv .1)

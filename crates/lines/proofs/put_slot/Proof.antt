@@ -60,7 +60,9 @@ same-length c = search needs
 
 returns-2 : tie.Need-returns-2
 returns-2 c =
-    put-same (refused-line _ _ _ _ _ (c .before .before .before .before .before .before .before .before .before .before .before .before .granule .ensures) (c .before .before .before .before .before .before .before .before .before .before .before .channel .ensures) (c .before .before .before .before .before .before .before .before .before .o .given .1))
+    put-same (refused-line _ _ _ _ _ (c .before .before .before .before .before .before .before .before .before .before .before .before .granule .ensures)
+    (c .before .before .before .before .before .before .before .before .before .before .before .channel .ensures)
+    (c .before .before .before .before .before .before .before .before .before .o .given .1))
     (put-then (c .before .before .before .before .before .before .put-start .ensures) (c .before .before .put-not-read .ensures))
 
 same-length-2 : tie.Need-same-length-2
@@ -68,7 +70,10 @@ same-length-2 c = search needs
 
 returns-3 : tie.Need-returns-3
 returns-3 c =
-    put-same (read-line _ _ _ _ _ _ (c .before .before .before .before .before .before .before .before .before .before .before .before .before .granule .ensures) (c .before .before .before .before .before .before .before .before .before .before .before .before .channel .ensures) (c .before .before .before .part .ensures) (c .before .before .before .before .before .before .before .before .before .before .o2 .given .1))
+    put-same (read-line _ _ _ _ _ _
+    (c .before .before .before .before .before .before .before .before .before .before .before .before .before .granule .ensures)
+    (c .before .before .before .before .before .before .before .before .before .before .before .before .channel .ensures)
+    (c .before .before .before .part .ensures) (c .before .before .before .before .before .before .before .before .before .before .o2 .given .1))
     (put-then (c .before .before .before .before .before .before .before .put-start2 .ensures) (c .before .before .put-read .ensures))
 
 pub put-slot-spec : {M : Type 1} → statement M

@@ -26,7 +26,10 @@ same-length c = search needs
 returns : tie.Need-returns
 unfolding slotsText
 returns c =
-    put-then (put-then (put-then (c .before .before .before .before .before .before .before .before .before .before .before .before .before .before .put-slot .ensures) (c .before .before .before .before .before .before .before .before .before .before .put-slot2 .ensures)) (c .before .before .before .before .before .before .put-slot3 .ensures)) (c .before .before .put-slot4 .ensures)
+    put-then (put-then
+    (put-then (c .before .before .before .before .before .before .before .before .before .before .before .before .before .before .put-slot .ensures)
+    (c .before .before .before .before .before .before .before .before .before .before .put-slot2 .ensures))
+    (c .before .before .before .before .before .before .put-slot3 .ensures)) (c .before .before .put-slot4 .ensures)
 
 pub put-slots-spec : {M : Type 1} → statement M
 put-slots-spec =

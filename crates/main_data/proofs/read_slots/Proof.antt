@@ -35,17 +35,24 @@ slice-aggregate-slots-from c = search needs
 
 slots-from-requires : tie.Need-slots-from-requires
 slots-from-requires c κs =
-    let both = both-of (c .before .before .before .before .before .is-header .result) _ (c .before .before .before .if2 .taken) in
-    (c .before .before .trees .ensures, c .before .before .before .before .before .before .if1 .left, sym (c .before .before .before .before .is-side-info .ensures) ∙ both .1)
+    let both = both-of (c .before .before .before .before .before .is-header .result) _ (c .before .before .before .if2 .taken) in (
+      c .before .before .trees .ensures,
+      c .before .before .before .before .before .before .if1 .left,
+      sym
+          (c .before .before .before .before .is-side-info .ensures) ∙ both .1,
+    )
 
 same-length : tie.Need-same-length
 same-length c = search needs
 
 returns-2 : tie.Need-returns-2
 returns-2 c =
-    let both = both-of (c .before .before .before .before .before .before .before .is-header .result) _ (c .before .before .before .before .before .if2 .taken) in
+    let both = both-of (c .before .before .before .before .before .before .before .is-header .result) _
+    (c .before .before .before .before .before .if2 .taken) in
     slots-told
-    (read-call _ _ _ _ (c .before .before .before .before .before .before .before .before .if1 .left) (sym (c .before .before .before .before .before .before .before .is-header .ensures) ∙ both .0) (sym (c .before .before .before .before .before .before .is-side-info .ensures) ∙ both .1))
+    (read-call _ _ _ _ (c .before .before .before .before .before .before .before .before .if1 .left)
+    (sym (c .before .before .before .before .before .before .before .is-header .ensures) ∙ both .0)
+    (sym (c .before .before .before .before .before .before .is-side-info .ensures) ∙ both .1))
     refl (c .before .slots-from .ensures)
 
 no-slots-requires-2 : tie.Need-no-slots-requires-2
@@ -54,7 +61,8 @@ no-slots-requires-2 c κs = search needs
 returns-3 : tie.Need-returns-3
 returns-3 c =
     slots-refused
-    (made-up-call _ _ _ _ (c .before .before .before .before .if1 .left) ((λ j. sym (c .before .before .before .is-header .ensures) j && sym (c .before .before .is-side-info .ensures) j) ∙ c .before .if2 .left))
+    (made-up-call _ _ _ _ (c .before .before .before .before .if1 .left)
+    ((λ j. sym (c .before .before .before .is-header .ensures) j && sym (c .before .before .is-side-info .ensures) j) ∙ c .before .if2 .left))
     (c .no-slots2 .ensures) refl
 
 pub read-slots-spec : {M : Type 1} → statement M

@@ -21,7 +21,13 @@ enum-known-value : tie.Need-enum-known-value
 enum-known-value c = search needs
 
 add-two : tie.Need-add-two
-add-two c = omega (arith, word-within _ _ _ _ _ _ (sym (c .before .value .given .1) ∙ c .before .before .before .lookup .ensures), c .before .before .before .before .before .before .fits .end)
+add-two c =
+    omega (
+      arith,
+      word-within _ _ _ _ _ _
+          (sym (c .before .value .given .1) ∙ c .before .before .before .lookup .ensures),
+      c .before .before .before .before .before .before .fits .end,
+    )
 
 two-requires : tie.Need-two-requires
 two-requires c κs = search needs
@@ -31,8 +37,15 @@ enum-known-x c = search needs
 
 add-t19 : tie.Need-add-t19
 add-t19 c =
-    let m = word-within _ _ _ _ _ _ (sym (c .before .before .before .before .before .value .given .1) ∙ c .before .before .before .before .before .before .before .lookup .ensures) in
-    omega (arith, m, two-within _ _ _ _ _ _ _ (escape-le _) (omega arith) (omega arith) (sym (c .before .x .given .1) ∙ c .before .before .before .two .ensures), c .before .before .before .before .before .before .before .before .before .before .fits .end)
+    let m = word-within _ _ _ _ _ _
+    (sym (c .before .before .before .before .before .value .given .1) ∙ c .before .before .before .before .before .before .before .lookup .ensures) in
+    omega (
+      arith,
+      m,
+      two-within _ _ _ _ _ _ _ (escape-le _) (omega arith) (omega arith)
+          (sym (c .before .x .given .1) ∙ c .before .before .before .two .ensures),
+      c .before .before .before .before .before .before .before .before .before .before .fits .end,
+    )
 
 enum-known-why : tie.Need-enum-known-why
 enum-known-why c = search needs
@@ -45,11 +58,24 @@ enum-told-2 c = search needs
 
 returns : tie.Need-returns
 unfolding pairOf pairWord pairAfter
-returns c = rw (sym (c .before .before .before .before .before .before .before .lookup .ensures) ∙ c .before .before .before .before .before .value .given .1, between-drop, sym (c .before .before .before .two .ensures) ∙ c .before .x .given .1) (search needs)
+returns c =
+    rw (
+      sym (c .before .before .before .before .before .before .before .lookup .ensures)
+          ∙ c .before .before .before .before .before .value .given .1,
+      between-drop,
+      sym (c .before .before .before .two .ensures) ∙ c .before .x .given .1,
+    )
+    (search needs)
 
 returns-2 : tie.Need-returns-2
 unfolding pairOf pairWord pairAfter
-returns-2 c = rw (sym (c .before .before .before .before .before .before .before .lookup .ensures) ∙ c .before .before .before .before .before .value .given .1, between-drop, sym (c .before .before .before .two .ensures) ∙ c .before .why .given .1)
+returns-2 c =
+    rw (
+      sym (c .before .before .before .before .before .before .before .lookup .ensures)
+          ∙ c .before .before .before .before .before .value .given .1,
+      between-drop,
+      sym (c .before .before .before .two .ensures) ∙ c .before .why .given .1,
+    )
 
 returns-3 : tie.Need-returns-3
 unfolding pairOf pairWord

@@ -20,7 +20,13 @@ enum-known-value : tie.Need-enum-known-value
 enum-known-value c = search needs
 
 add-signs : tie.Need-add-signs
-add-signs c = omega (arith, word-within _ _ _ _ _ _ (sym (c .before .value .given .1) ∙ c .before .before .before .lookup .ensures), c .before .before .before .before .before .before .fits .end)
+add-signs c =
+    omega (
+      arith,
+      word-within _ _ _ _ _ _
+          (sym (c .before .value .given .1) ∙ c .before .before .before .lookup .ensures),
+      c .before .before .before .before .before .before .fits .end,
+    )
 
 signs-requires : tie.Need-signs-requires
 signs-requires c κs = search needs

@@ -26,7 +26,13 @@ unfolding quadFirst
 returns c = rw (sym (c .before .before .plain .ensures) ∙ c .enum-told .given .1)
 
 add-b : tie.Need-add-b
-add-b c = omega (arith, two-within _ _ _ 0 _ _ _ (omega arith) (omega arith) (omega arith) (sym (c .before .v .given .1) ∙ c .before .before .before .plain .ensures), c .before .before .before .before .before .fits .end)
+add-b c =
+    omega (
+      arith,
+      two-within _ _ _ 0 _ _ _ (omega arith) (omega arith) (omega arith)
+          (sym (c .before .v .given .1) ∙ c .before .before .before .plain .ensures),
+      c .before .before .before .before .before .fits .end,
+    )
 
 plain-requires-2 : tie.Need-plain-requires-2
 plain-requires-2 c κs = search needs
@@ -39,19 +45,45 @@ enum-told-2 c = search needs
 
 returns-2 : tie.Need-returns-2
 unfolding quadFirst quadLast
-returns-2 c = rw (sym (c .before .before .before .before .before .before .plain .ensures) ∙ c .before .before .before .before .v .given .1, between-drop, sym (c .before .before .plain2 .ensures) ∙ c .enum-told2 .given .1)
+returns-2 c =
+    rw (
+      sym (c .before .before .before .before .before .before .plain .ensures)
+          ∙ c .before .before .before .before .v .given .1,
+      between-drop,
+      sym (c .before .before .plain2 .ensures) ∙ c .enum-told2 .given .1,
+    )
 
 add-t19 : tie.Need-add-t19
-add-t19 c = omega (arith, two-within _ _ _ 0 _ _ _ (omega arith) (omega arith) (omega arith) (sym (c .before .before .before .before .before .v .given .1) ∙ c .before .before .before .before .before .before .before .plain .ensures), c .before .before .before .before .before .before .before .before .before .pre)
+add-t19 c =
+    omega (
+      arith,
+      two-within _ _ _ 0 _ _ _ (omega arith) (omega arith) (omega arith)
+          (sym (c .before .before .before .before .before .v .given .1) ∙ c .before .before .before .before .before .before .before .plain .ensures),
+      c .before .before .before .before .before .before .before .before .before .pre,
+    )
 
 add-t20 : tie.Need-add-t20
 add-t20 c =
-    let m = two-within _ _ _ 0 _ _ _ (omega arith) (omega arith) (omega arith) (sym (c .before .before .before .before .before .v .given .1) ∙ c .before .before .before .before .before .before .before .plain .ensures) in
-    omega (arith, m, two-within _ _ _ 0 _ _ _ (omega arith) (omega arith) (omega arith) (sym (c .before .x .given .1) ∙ c .before .before .before .plain2 .ensures), c .before .before .before .before .before .before .before .before .before .pre)
+    let m = two-within _ _ _ 0 _ _ _ (omega arith) (omega arith) (omega arith)
+    (sym (c .before .before .before .before .before .v .given .1) ∙ c .before .before .before .before .before .before .before .plain .ensures) in
+    omega (
+      arith,
+      m,
+      two-within _ _ _ 0 _ _ _ (omega arith) (omega arith) (omega arith)
+          (sym (c .before .x .given .1) ∙ c .before .before .before .plain2 .ensures),
+      c .before .before .before .before .before .before .before .before .before .pre,
+    )
 
 returns-3 : tie.Need-returns-3
 unfolding quadFirst quadLast
-returns-3 c = rw (sym (c .before .before .before .before .before .before .before .plain .ensures) ∙ c .before .before .before .before .before .v .given .1, between-drop, sym (c .before .before .before .plain2 .ensures) ∙ c .before .x .given .1) (search needs)
+returns-3 c =
+    rw (
+      sym (c .before .before .before .before .before .before .before .plain .ensures)
+          ∙ c .before .before .before .before .before .v .given .1,
+      between-drop,
+      sym (c .before .before .before .plain2 .ensures) ∙ c .before .x .given .1,
+    )
+    (search needs)
 
 pub signs-spec : {M : Type 1} → statement M
 signs-spec =

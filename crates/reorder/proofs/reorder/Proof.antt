@@ -53,7 +53,9 @@ returns-2 c =
     let first = c .before .before .before .first-short .ensures ∙ ap firstShort (c .before .before .before .before .shape-of .ensures) in
     let a = tests .before .before .before .before .before .args in
     rw (c .before .reorder-from .ensures)
-    (answers-told (in-order _ _ _ (tests .before .before .before .before .if1 .left) header slot ∙ ap (λ (k : ℕ). told (reorderedFrom (a .h .rate) k (now (a .numbers)))) (sym first)))
+    (answers-told
+    (in-order _ _ _ (tests .before .before .before .before .if1 .left) header slot
+    ∙ ap (λ (k : ℕ). told (reorderedFrom (a .h .rate) k (now (a .numbers)))) (sym first)))
 
 returns-3 : tie.Need-returns-3
 returns-3 c =

@@ -43,21 +43,52 @@ short-start-requires-2 : tie.Need-short-start-requires-2 Inv-loop μ-loop
 short-start-requires-2 c κs = tt
 
 cast-c : tie.Need-cast-c Inv-loop μ-loop
-cast-c c = omega (arith, c .short-start2 .ensures, short-tops (c .before .before .before .before .before .before .args .rate) (c .before .before .before .loop .k + 1))
+cast-c c =
+    omega (arith, c .short-start2 .ensures, short-tops (c .before .before .before .before .before .before .args .rate) (c .before .before .before .loop .k + 1))
 
 slice-aggregate-reorder-band : tie.Need-slice-aggregate-reorder-band Inv-loop μ-loop
 slice-aggregate-reorder-band c = sym (c .before .before .before .before .loop .inv .old-long)
 
 mul-reorder-band : tie.Need-mul-reorder-band Inv-loop μ-loop
-mul-reorder-band c = omega (arith, c .before .before .before .short-start .ensures, c .before .before .short-start2 .ensures, short-rises (c .before .before .before .before .before .before .before .before .args .rate) (c .before .before .before .before .before .loop .k), short-tops (c .before .before .before .before .before .before .before .before .args .rate) (c .before .before .before .before .before .loop .k + 1))
+mul-reorder-band c =
+    omega (
+      arith,
+      c .before .before .before .short-start .ensures,
+      c .before .before .short-start2 .ensures,
+      short-rises
+          (c .before .before .before .before .before .before .before .before .args .rate) (c .before .before .before .before .before .loop .k),
+      short-tops
+          (c .before .before .before .before .before .before .before .before .args .rate) (c .before .before .before .before .before .loop .k + 1),
+    )
 
 sub-reorder-band : tie.Need-sub-reorder-band Inv-loop μ-loop
-sub-reorder-band c = omega (arith, c .before .before .before .short-start .ensures, c .before .before .short-start2 .ensures, short-rises (c .before .before .before .before .before .before .before .before .args .rate) (c .before .before .before .before .before .loop .k), short-tops (c .before .before .before .before .before .before .before .before .args .rate) (c .before .before .before .before .before .loop .k + 1))
+sub-reorder-band c =
+    omega (
+      arith,
+      c .before .before .before .short-start .ensures,
+      c .before .before .short-start2 .ensures,
+      short-rises
+          (c .before .before .before .before .before .before .before .before .args .rate) (c .before .before .before .before .before .loop .k),
+      short-tops
+          (c .before .before .before .before .before .before .before .before .args .rate) (c .before .before .before .before .before .loop .k + 1),
+    )
 
 reorder-band-requires : tie.Need-reorder-band-requires Inv-loop μ-loop
 reorder-band-requires c κs =
-    let o = c .before .before .before .before .before .loop .inv in
-    (omega (arith, c .before .before .before .short-start .ensures, c .before .before .short-start2 .ensures, short-rises (c .before .before .before .before .before .before .before .before .args .rate) (c .before .before .before .before .before .loop .k), short-tops (c .before .before .before .before .before .before .before .before .args .rate) (c .before .before .before .before .before .loop .k + 1)), omega (arith, o .long, o .room), omega (arith, o .old-long))
+    let o = c .before .before .before .before .before .loop .inv in (
+      omega (
+        arith,
+        c .before .before .before .short-start .ensures,
+        c .before .before .short-start2 .ensures,
+        short-rises
+            (c .before .before .before .before .before .before .before .before .args .rate) (c .before .before .before .before .before .loop .k),
+        short-tops
+            (c .before .before .before .before .before .before .before .before .args .rate) (c .before .before .before .before .before .loop .k + 1),
+      ),
+      omega
+          (arith, o .long, o .room),
+      omega (arith, o .old-long),
+    )
 
 add-k : tie.Need-add-k Inv-loop μ-loop
 add-k c = omega arith
@@ -68,7 +99,8 @@ loop-less c = omega arith
 loop-again : tie.Need-loop-again Inv-loop μ-loop
 loop-again c =
     let o = c .before .before .before .before .before .before .before .loop in
-    ordered-turn _ _ _ _ _ _ (o .inv) _ _ _ (c .before .before .before .before .before .short-start .ensures) (c .before .before .before .before .short-start2 .ensures)
+    ordered-turn _ _ _ _ _ _ (o .inv) _ _ _ (c .before .before .before .before .before .short-start .ensures)
+    (c .before .before .before .before .short-start2 .ensures)
     (omega arith) (c .before .reorder-band .ensures)
 
 same-length : tie.Need-same-length Inv-loop μ-loop

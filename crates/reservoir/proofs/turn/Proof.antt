@@ -100,7 +100,10 @@ returns-6 c =
     let reach : a .begin ≤ stated = omega arith in
     changed-turned (reached-turn lent stated (a .begin) main lent-fits stated-fits fits reach) refl refl
     refl (reached-length lent stated (a .begin) main lent-fits stated-fits fits reach)
-    (put-whole (c .before .before .put2 .ensures) (omega arith) ∙ ap (λ (x : List ℕ). paste x (a .begin) main (length main)) (c .before .before .before .before .before .before .slide .ensures ∙ slid-whole lent (stated - a .begin) (a .begin) (omega arith)) ∙ reached-bytes lent stated (a .begin) main lent-fits stated-fits fits reach)
+    (put-whole (c .before .before .put2 .ensures) (omega arith)
+    ∙ ap (λ (x : List ℕ). paste x (a .begin) main (length main))
+    (c .before .before .before .before .before .before .slide .ensures ∙ slid-whole lent (stated - a .begin) (a .begin) (omega arith))
+    ∙ reached-bytes lent stated (a .begin) main lent-fits stated-fits fits reach)
 
 pub turn-spec : {M : Type 1} → statement M
 turn-spec =

@@ -30,7 +30,8 @@ returns : tie.Need-returns
 unfolding pick
 returns c =
     let a = c .before .before .args in
-    ap (λ (x : Bool). factorBy (sourceOf x (a .length)) (getD (a .t3) (a .i) 0) (bits (now (a .s)) (a .at) (widthOf (sourceOf x (a .length))))) (sym (c .if1 .taken))
+    ap (λ (x : Bool). factorBy (sourceOf x (a .length)) (getD (a .t3) (a .i) 0) (bits (now (a .s)) (a .at) (widthOf (sourceOf x (a .length)))))
+    (sym (c .if1 .taken))
 
 field-requires : tie.Need-field-requires
 field-requires c κs = search needs
@@ -48,7 +49,8 @@ returns-2 c =
     c .field .ensures
     ∙ ap (λ (n : ℕ). value (bits (now (a .s)) (a .at) n)) w
     ∙ ap value (sym (take-bits (a .length) (now (a .s)) (a .at) (a .length) (omega arith)))
-    ∙ ap (λ (x : Bool). factorBy (sourceOf x (a .length)) (getD (a .t3) (a .i) 0) (bits (now (a .s)) (a .at) (widthOf (sourceOf x (a .length))))) (sym (c .before .if1 .left))
+    ∙ ap (λ (x : Bool). factorBy (sourceOf x (a .length)) (getD (a .t3) (a .i) 0) (bits (now (a .s)) (a .at) (widthOf (sourceOf x (a .length)))))
+    (sym (c .before .if1 .left))
 
 pub read-factor-spec : {M : Type 1} → statement M
 read-factor-spec =

@@ -17,7 +17,8 @@ loop-holds : tie.Need-loop-holds Inv-loop μ-loop
 loop-holds c = plan-begin _ _ _ _ _
 
 read-group-requires : tie.Need-read-group-requires Inv-loop μ-loop
-read-group-requires c κs = plan-group _ _ _ _ _ _ _ _ _ (c .before .before .loop .inv) (c .before .before .before .before .before .pre) (c .before .loop-test .taken)
+read-group-requires c κs =
+    plan-group _ _ _ _ _ _ _ _ _ (c .before .before .loop .inv) (c .before .before .before .before .before .pre) (c .before .loop-test .taken)
 
 mul-done : tie.Need-mul-done Inv-loop μ-loop
 mul-done c = omega (arith, c .before .before .before .before .loop-test .taken)
@@ -28,13 +29,15 @@ element-copy-out-done c = c .before .before .before .before .loop-test .taken
 cast-done : tie.Need-cast-done Inv-loop μ-loop
 cast-done c =
     let start = c .before .before .before .before .before .before .before .before .before in
-    let own = plan-group _ _ _ _ _ _ _ _ _ (c .before .before .before .before .before .before .loop .inv) (start .pre) (c .before .before .before .before .before .loop-test .taken) in
+    let own = plan-group _ _ _ _ _ _ _ _ _ (c .before .before .before .before .before .before .loop .inv) (start .pre)
+    (c .before .before .before .before .before .loop-test .taken) in
     omega (arith, own .few)
 
 add-done : tie.Need-add-done Inv-loop μ-loop
 add-done c =
     let start = c .before .before .before .before .before .before .before .before .before in
-    let own = plan-group _ _ _ _ _ _ _ _ _ (c .before .before .before .before .before .before .loop .inv) (start .pre) (c .before .before .before .before .before .loop-test .taken) in
+    let own = plan-group _ _ _ _ _ _ _ _ _ (c .before .before .before .before .before .before .loop .inv) (start .pre)
+    (c .before .before .before .before .before .loop-test .taken) in
     omega (arith, own .few)
 
 add-g : tie.Need-add-g Inv-loop μ-loop
@@ -44,7 +47,9 @@ loop-less : tie.Need-loop-less Inv-loop μ-loop
 loop-less c = omega (arith, c .before .before .before .before .before .loop-test .taken)
 
 loop-again : tie.Need-loop-again Inv-loop μ-loop
-loop-again c = plan-turn _ _ _ _ _ _ _ _ _ (c .before .before .before .before .before .before .loop .inv) _ _ (c .before .before .before .before .before .loop-test .taken) (c .before .before .before .read-group .ensures)
+loop-again c =
+    plan-turn _ _ _ _ _ _ _ _ _ (c .before .before .before .before .before .before .loop .inv) _ _
+    (c .before .before .before .before .before .loop-test .taken) (c .before .before .before .read-group .ensures)
 
 same-length : tie.Need-same-length Inv-loop μ-loop
 same-length c = c .before .loop .inv .long

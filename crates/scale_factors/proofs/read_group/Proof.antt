@@ -70,7 +70,9 @@ loop-less : tie.Need-loop-less Inv-loop μ-loop
 loop-less c = omega (arith, c .before .loop-test .taken)
 
 loop-again : tie.Need-loop-again Inv-loop μ-loop
-loop-again c = group-turn _ _ _ _ _ _ _ _ _ _ (c .before .before .loop .inv) _ _ (c .before .loop-test .taken) (c .before .before .before .width-of .ensures) (c .read-factor .ensures)
+loop-again c =
+    group-turn _ _ _ _ _ _ _ _ _ _ (c .before .before .loop .inv) _ _ (c .before .loop-test .taken) (c .before .before .before .width-of .ensures)
+    (c .read-factor .ensures)
 
 same-length : tie.Need-same-length Inv-loop μ-loop
 same-length c = c .before .loop .inv .long

@@ -58,7 +58,8 @@ returns-2 c =
     let many : length (a .fs) ≡ 36 = search needs in
     c .flat .ensures
     ∙ ap flatOf (c .before .short-places .ensures)
-    ∙ bands-back (a .fs) (a .n) (c .before .before .before .short-count .result) (c .before .before .short-from .result) many (omega (arith, count, start .pre)) (omega (arith, count, from, start .pre, short-near (a .shape)))
+    ∙ bands-back (a .fs) (a .n) (c .before .before .before .short-count .result) (c .before .before .short-from .result) many
+    (omega (arith, count, start .pre)) (omega (arith, count, from, start .pre, short-near (a .shape)))
     ∙ (λ j. places (a .fs) (a .n) (count j) (from j))
 
 pub short-factors-spec : {M : Type 1} → statement M

@@ -37,7 +37,8 @@ returns-2 c =
     let d = f .before .before in
     let a = d .before .before .args in
     rw
-    (side-under (a .h) (now (a .frame)) (d .is-header .ensures) (not-false _ (f .before .if1 .left)) (f .header-size .ensures) (c .before .before .is-mpeg1 .ensures) (c .before .is-two .ensures))
+    (side-under (a .h) (now (a .frame)) (d .is-header .ensures) (not-false _ (f .before .if1 .left)) (f .header-size .ensures)
+    (c .before .before .is-mpeg1 .ensures) (c .before .is-two .ensures))
     (c .read-after .ensures)
 
 pub read-side-info-spec : {M : Type 1} → statement M

@@ -15,7 +15,8 @@ use Rattle.slots.proofs.step.Reads as step-reads
 use Rattle.lent_bytes.proofs.put.Reads as put-reads
 
 abbrev Inv-loop : tie.InvT-loop
-Inv-loop piece₀ bytes₀ numbers₀ out₀ at run₀ n₀ piece bytes numbers out run n = (length piece ≡ length piece₀) × (length bytes ≡ length bytes₀) × (length numbers ≡ length numbers₀) × (length out ≡ length out₀)
+Inv-loop piece₀ bytes₀ numbers₀ out₀ at run₀ n₀ piece bytes numbers out run n =
+    (length piece ≡ length piece₀) × (length bytes ≡ length bytes₀) × (length numbers ≡ length numbers₀) × (length out ≡ length out₀)
 
 abbrev μ-loop : tie.MeasureT-loop
 μ-loop piece₀ bytes₀ numbers₀ out₀ at run₀ n₀ piece bytes numbers out run n = 18446744073709551615 - n

@@ -8,7 +8,8 @@ use Rattle.dump.proofs.walk.run.Statement.{statement}
 use Rattle.dump.proofs.walk.run.Tie as tie
 
 abbrev Inv-loop : tie.InvT-loop
-Inv-loop out₀ piece₀ bytes₀ numbers₀ said w₀ turns₀ out piece bytes numbers w turns = (length out ≡ length out₀) × (length piece ≡ length piece₀) × (length bytes ≡ length bytes₀) × (length numbers ≡ length numbers₀)
+Inv-loop out₀ piece₀ bytes₀ numbers₀ said w₀ turns₀ out piece bytes numbers w turns =
+    (length out ≡ length out₀) × (length piece ≡ length piece₀) × (length bytes ≡ length bytes₀) × (length numbers ≡ length numbers₀)
 
 abbrev μ-loop : tie.MeasureT-loop
 μ-loop out₀ piece₀ bytes₀ numbers₀ said w₀ turns₀ out piece bytes numbers w turns = turns

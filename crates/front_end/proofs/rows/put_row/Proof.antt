@@ -64,7 +64,8 @@ put-factors-requires-2 : tie.Need-put-factors-requires-2
 put-factors-requires-2 c κs =
     let o = c .before .before .before .before .before in
     let a = o .before .before .before .before .before .before .args in
-    let kept = same-after (a .rows .now) (a .at) _ _ (a .a .long) (sym (slice-aggregate-put-factors o)) (o .before .before .before .before .before .before .pre) (c .before .before .before .before .put-factors .ensures) in
+    let kept = same-after (a .rows .now) (a .at) _ _ (a .a .long) (sym (slice-aggregate-put-factors o))
+    (o .before .before .before .before .before .before .pre) (c .before .before .before .before .put-factors .ensures) in
     omega (arith, slice-aggregate-put-factors-2 c, kept, o .before .before .before .before .before .before .pre)
 
 -- src/rows.rt:52:1
@@ -73,7 +74,8 @@ same-length c =
     let e = c .before .before .before in
     let o = e .before .before .before .before .before in
     let a = o .before .before .before .before .before .before .args in
-    same-row (a .rows .now) (a .at) _ _ (a .a .long) (sym (slice-aggregate-put-factors o)) (o .before .before .before .before .before .before .pre) (a .a .short) (sym (slice-aggregate-put-factors-2 e)) (e .before .before .before .before .put-factors .ensures) (c .before .before .put-factors2 .ensures)
+    same-row (a .rows .now) (a .at) _ _ (a .a .long) (sym (slice-aggregate-put-factors o)) (o .before .before .before .before .before .before .pre)
+    (a .a .short) (sym (slice-aggregate-put-factors-2 e)) (e .before .before .before .before .put-factors .ensures) (c .before .before .put-factors2 .ensures)
 
 -- src/rows.rt:52:1
 returns : tie.Need-returns
@@ -83,7 +85,8 @@ returns c =
     let a = o .before .before .before .before .before .before .args in
     c .before .before .put-factors2 .ensures
     ∙ ap (λ (x : List ℕ). paste x (a .at + 24) (a .a .short) (length (a .a .short))) (e .before .before .before .before .put-factors .ensures)
-    ∙ row-put (a .rows .now) (a .at) (a .a) (sym (slice-aggregate-put-factors o)) (sym (slice-aggregate-put-factors-2 e)) (o .before .before .before .before .before .before .pre) (o .before .before .said-of .ensures .0) (o .before .before .said-of .ensures .1)
+    ∙ row-put (a .rows .now) (a .at) (a .a) (sym (slice-aggregate-put-factors o)) (sym (slice-aggregate-put-factors-2 e))
+    (o .before .before .before .before .before .before .pre) (o .before .before .said-of .ensures .0) (o .before .before .said-of .ensures .1)
 
 pub put-row-spec : {M : Type 1} → statement M
 put-row-spec =

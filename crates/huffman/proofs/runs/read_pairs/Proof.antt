@@ -40,7 +40,8 @@ enum-known-why c = search needs
 
 returns : tie.Need-returns Inv-loop μ-loop
 returns c =
-    pair-halt _ _ _ _ _ _ _ _ _ _ _ (c .before .before .before .before .before .before .loop .inv) (c .before .before .before .before .before .loop-test .taken) _ (c .before .before .before .before .table-at .ensures) _
+    pair-halt _ _ _ _ _ _ _ _ _ _ _ (c .before .before .before .before .before .before .loop .inv)
+    (c .before .before .before .before .before .loop-test .taken) _ (c .before .before .before .before .table-at .ensures) _
     (sym (c .before .why .given .1) ∙ c .before .before .before .pair .ensures)
 
 enum-known-x : tie.Need-enum-known-x Inv-loop μ-loop
@@ -62,7 +63,14 @@ element-set-from-y : tie.Need-element-set-from-y Inv-loop μ-loop
 element-set-from-y c = omega arith
 
 add-at : tie.Need-add-at Inv-loop μ-loop
-add-at c = omega (arith, pair-within _ _ _ _ _ _ (sym (c .before .x .given .1) ∙ c .before .before .before .pair .ensures), c .before .before .before .before .before .before .loop .inv .place, c .before .before .before .before .before .before .before .before .before .fits .end)
+add-at c =
+    omega (
+      arith,
+      pair-within _ _ _ _ _ _
+          (sym (c .before .x .given .1) ∙ c .before .before .before .pair .ensures),
+      c .before .before .before .before .before .before .loop .inv .place,
+      c .before .before .before .before .before .before .before .before .before .fits .end,
+    )
 
 add-i : tie.Need-add-i Inv-loop μ-loop
 add-i c = omega arith
@@ -78,8 +86,11 @@ loop-again c =
     let fx : SFits w32 (c .before .x .given .0 .0) = search needs in
     let fy : SFits w32 (c .before .x .given .0 .1 .0) = search needs in
     rw (toZ-ofZ w32 _ fx, toZ-ofZ w32 _ fy)
-    (pair-turn _ _ _ _ _ _ _ _ _ _ _ (c .before .before .before .before .before .before .loop .inv) (c .before .before .before .before .before .loop-test .taken) _ (c .before .before .before .before .table-at .ensures) _ _ _
-    (sym (c .before .x .given .1) ∙ c .before .before .before .pair .ensures) (c .before .before .before .before .before .before .before .before .before .pre .0) (c .before .before .before .before .before .before .before .before .before .fits .end .fits))
+    (pair-turn _ _ _ _ _ _ _ _ _ _ _ (c .before .before .before .before .before .before .loop .inv)
+    (c .before .before .before .before .before .loop-test .taken) _ (c .before .before .before .before .table-at .ensures) _ _ _
+    (sym (c .before .x .given .1) ∙ c .before .before .before .pair .ensures)
+    (c .before .before .before .before .before .before .before .before .before .pre .0)
+    (c .before .before .before .before .before .before .before .before .before .fits .end .fits))
 
 returns-2 : tie.Need-returns-2 Inv-loop μ-loop
 returns-2 c = pair-end _ _ _ _ _ _ _ _ _ _ _ (c .before .loop .inv) (c .loop-test .left)

@@ -38,7 +38,9 @@ enum-told : tie.Need-enum-told Inv-loop μ-loop
 enum-told c = search needs
 
 returns : tie.Need-returns Inv-loop μ-loop
-returns c = quad-halt _ _ _ _ _ _ _ _ _ _ (c .before .before .before .before .before .loop .inv) (c .before .before .before .before .loop-test .taken) (ltb-true _ _ (c .before .before .before .if1 .taken)) (sym (c .enum-told .given .1) ∙ c .before .before .quad .ensures)
+returns c =
+    quad-halt _ _ _ _ _ _ _ _ _ _ (c .before .before .before .before .before .loop .inv) (c .before .before .before .before .loop-test .taken)
+    (ltb-true _ _ (c .before .before .before .if1 .taken)) (sym (c .enum-told .given .1) ∙ c .before .before .quad .ensures)
 
 enum-told-2 : tie.Need-enum-told-2 Inv-loop μ-loop
 enum-told-2 c = search needs
@@ -47,7 +49,9 @@ cast-t19 : tie.Need-cast-t19 Inv-loop μ-loop
 cast-t19 c = omega arith
 
 returns-2 : tie.Need-returns-2 Inv-loop μ-loop
-returns-2 c = quad-dropped _ _ _ _ _ _ _ _ _ _ (c .before .before .before .before .before .loop .inv) (c .before .before .before .before .loop-test .taken) (ltb-true _ _ (c .before .before .before .if1 .taken)) (sym (c .enum-told2 .given .1) ∙ c .before .before .quad .ensures)
+returns-2 c =
+    quad-dropped _ _ _ _ _ _ _ _ _ _ (c .before .before .before .before .before .loop .inv) (c .before .before .before .before .loop-test .taken)
+    (ltb-true _ _ (c .before .before .before .if1 .taken)) (sym (c .enum-told2 .given .1) ∙ c .before .before .quad .ensures)
 
 enum-known-v : tie.Need-enum-known-v Inv-loop μ-loop
 enum-known-v c = search needs
@@ -86,7 +90,14 @@ element-set-from-y : tie.Need-element-set-from-y Inv-loop μ-loop
 element-set-from-y c = omega arith
 
 add-at : tie.Need-add-at Inv-loop μ-loop
-add-at c = omega (arith, quad-within _ _ _ _ _ _ (sym (c .before .v .given .1) ∙ c .before .before .before .quad .ensures), c .before .before .before .before .before .before .loop .inv .place, c .before .before .before .before .before .before .before .before .before .fits .end)
+add-at c =
+    omega (
+      arith,
+      quad-within _ _ _ _ _ _
+          (sym (c .before .v .given .1) ∙ c .before .before .before .quad .ensures),
+      c .before .before .before .before .before .before .loop .inv .place,
+      c .before .before .before .before .before .before .before .before .before .fits .end,
+    )
 
 add-i : tie.Need-add-i Inv-loop μ-loop
 add-i c = omega arith
@@ -101,7 +112,10 @@ loop-again c =
     let fx : SFits w32 (c .before .v .given .0 .1 .1 .0) = search needs in
     let fy : SFits w32 (c .before .v .given .0 .1 .1 .1 .0) = search needs in
     rw (toZ-ofZ w32 _ fv, toZ-ofZ w32 _ fw, toZ-ofZ w32 _ fx, toZ-ofZ w32 _ fy)
-    (quad-turn _ _ _ _ _ _ _ _ _ _ (c .before .before .before .before .before .before .loop .inv) (c .before .before .before .before .before .loop-test .taken) (ltb-true _ _ (c .before .before .before .before .if1 .taken)) _ _ _ _ _ (sym (c .before .v .given .1) ∙ c .before .before .before .quad .ensures) (c .before .before .before .before .before .before .before .before .before .fits .end .fits))
+    (quad-turn _ _ _ _ _ _ _ _ _ _ (c .before .before .before .before .before .before .loop .inv)
+    (c .before .before .before .before .before .loop-test .taken) (ltb-true _ _ (c .before .before .before .before .if1 .taken)) _ _ _ _ _
+    (sym (c .before .v .given .1) ∙ c .before .before .before .quad .ensures)
+    (c .before .before .before .before .before .before .before .before .before .fits .end .fits))
 
 cast-t30 : tie.Need-cast-t30 Inv-loop μ-loop
 cast-t30 c = omega arith

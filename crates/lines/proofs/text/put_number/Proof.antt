@@ -30,7 +30,8 @@ same-length c = search needs
 returns : tie.Need-returns
 returns c =
     let e = c .before .before .before .before .before .before .spell .ensures in
-    put-same (all-after _ (c .before .before .before .before .before .before .spell .last .1 .0) (c .before .before .before .before .before .before .spell .result) (e .1) (e .2)) (c .before .before .put .ensures)
+    put-same (all-after _ (c .before .before .before .before .before .before .spell .last .1 .0)
+    (c .before .before .before .before .before .before .spell .result) (e .1) (e .2)) (c .before .before .put .ensures)
 
 pub put-number-spec : {M : Type 1} → statement M
 put-number-spec =

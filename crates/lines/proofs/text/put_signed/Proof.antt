@@ -32,7 +32,8 @@ same-length c = search needs
 returns : tie.Need-returns
 returns c =
     let start = c .before .before .before .before .before .before .before .before .before .before .before .before in
-    let e = ap (λ (m : ℕ). 45 ∷ decimalOf m) (c .before .before .before .magnitude .ensures) ∙ minus-text _ (start .fits .n) (c .before .before .before .before .before .before .before .before .before .before .if1 .taken) in
+    let e = ap (λ (m : ℕ). 45 ∷ decimalOf m) (c .before .before .before .magnitude .ensures)
+    ∙ minus-text _ (start .fits .n) (c .before .before .before .before .before .before .before .before .before .before .if1 .taken) in
     put-same e (put-then (c .before .before .before .before .before .before .before .put .ensures) (c .before .before .put-number .ensures))
 
 magnitude-requires-2 : tie.Need-magnitude-requires-2
@@ -47,7 +48,8 @@ same-length-2 c = search needs
 returns-2 : tie.Need-returns-2
 returns-2 c =
     let start = c .before .before .before .before .before .before .before in
-    let e = ap decimalOf (c .before .before .before .magnitude2 .ensures) ∙ plain-text _ (start .fits .n) (c .before .before .before .before .before .if1 .left) in
+    let e = ap decimalOf (c .before .before .before .magnitude2 .ensures)
+    ∙ plain-text _ (start .fits .n) (c .before .before .before .before .before .if1 .left) in
     put-same e (c .before .before .put-number2 .ensures)
 
 pub put-signed-spec : {M : Type 1} → statement M

@@ -22,7 +22,8 @@ use Rattle.main_data.proofs.setting.setting_of.Reads as setting-of-read
 use Rattle.main_data.proofs.slot.read_slot.Reads as read-slot-reads
 
 abbrev Inv-loop : tie.InvT-loop
-Inv-loop links h main numbers₀ i channels n answers₀ at₀ k₀ numbers answers at k = (n ≡ granules h * channelCount h) × (channels ≡ channelCount h) × (k ≤ n) × Turning h i main numbers₀ numbers answers at k
+Inv-loop links h main numbers₀ i channels n answers₀ at₀ k₀ numbers answers at k =
+    (n ≡ granules h * channelCount h) × (channels ≡ channelCount h) × (k ≤ n) × Turning h i main numbers₀ numbers answers at k
 
 abbrev μ-loop : tie.MeasureT-loop
 μ-loop links h main numbers₀ i channels n answers₀ at₀ k₀ numbers answers at k = n - k
@@ -34,7 +35,8 @@ granules-requires : tie.Need-granules-requires Inv-loop μ-loop
 granules-requires c κs = tt
 
 mul-n : tie.Need-mul-n Inv-loop μ-loop
-mul-n c = rw (c .granules .ensures, c .before .channel-count .ensures) (record { fits = omega (arith, four-at-most (c .before .before .before .before .args .h)) })
+mul-n c =
+    rw (c .granules .ensures, c .before .channel-count .ensures) (record { fits = omega (arith, four-at-most (c .before .before .before .before .args .h)) })
 
 lacking-slots-requires : tie.Need-lacking-slots-requires Inv-loop μ-loop
 lacking-slots-requires c κs = tt
@@ -63,28 +65,61 @@ setting-of-requires : tie.Need-setting-of-requires Inv-loop μ-loop
 setting-of-requires c κs = omega (arith, c .before .before .before .loop .inv .0)
 
 mul-from : tie.Need-mul-from Inv-loop μ-loop
-mul-from c = omega (arith, c .before .before .before .before .before .loop .inv .0, four-at-most (c .before .before .before .before .before .before .before .before .before .before .before .args .h))
+mul-from c =
+    omega (
+      arith,
+      c .before .before .before .before .before .loop .inv .0,
+      four-at-most
+          (c .before .before .before .before .before .before .before .before .before .before .before .args .h),
+    )
 
 add-end : tie.Need-add-end Inv-loop μ-loop
-add-end c = omega (arith, c .before .before .before .before .before .loop .inv .0, four-at-most (c .before .before .before .before .before .before .before .before .before .before .before .args .h))
+add-end c =
+    omega (
+      arith,
+      c .before .before .before .before .before .loop .inv .0,
+      four-at-most
+          (c .before .before .before .before .before .before .before .before .before .before .before .args .h),
+    )
 
 mul-read-slot : tie.Need-mul-read-slot Inv-loop μ-loop
-mul-read-slot c = omega (arith, c .before .before .before .before .before .loop .inv .0, four-at-most (c .before .before .before .before .before .before .before .before .before .before .before .args .h))
+mul-read-slot c =
+    omega (
+      arith,
+      c .before .before .before .before .before .loop .inv .0,
+      four-at-most
+          (c .before .before .before .before .before .before .before .before .before .before .before .args .h),
+    )
 
 sub-read-slot : tie.Need-sub-read-slot Inv-loop μ-loop
-sub-read-slot c = omega (arith, c .before .before .before .before .before .loop .inv .0, four-at-most (c .before .before .before .before .before .before .before .before .before .before .before .args .h))
+sub-read-slot c =
+    omega (
+      arith,
+      c .before .before .before .before .before .loop .inv .0,
+      four-at-most
+          (c .before .before .before .before .before .before .before .before .before .before .before .args .h),
+    )
 
 part-read-slot-start : tie.Need-part-read-slot-start Inv-loop μ-loop
 part-read-slot-start c = omega arith
 
 part-read-slot-end : tie.Need-part-read-slot-end Inv-loop μ-loop
-part-read-slot-end c = omega (arith, c .before .before .before .before .before .loop .inv .0, c .before .before .before .before .before .loop .inv .3 .room, c .before .before .before .before .before .loop .inv .3 .long, four-at-most (c .before .before .before .before .before .before .before .before .before .before .before .args .h))
+part-read-slot-end c =
+    omega (
+      arith,
+      c .before .before .before .before .before .loop .inv .0,
+      c .before .before .before .before .before .loop .inv .3 .room,
+      c .before .before .before .before .before .loop .inv .3 .long,
+      four-at-most
+          (c .before .before .before .before .before .before .before .before .before .before .before .args .h),
+    )
 
 read-slot-requires : tie.Need-read-slot-requires Inv-loop μ-loop
 read-slot-requires c κs =
     let a = c .before .before .before .before .before .before .before .before .before .before .before .before .args in
     let o = c .before .before .before .before .before .before .loop in
-    let q = record-at (a .h) (a .t3) (c .before .before .before .before .before .before .before .before .before .before .before .before .pre .2) (o .k) (omega (arith, o .inv .0)) pastRecord in (
+    let q = record-at (a .h) (a .t3) (c .before .before .before .before .before .before .before .before .before .before .before .before .pre .2) (o .k)
+    (omega (arith, o .inv .0)) pastRecord in (
       c .before .before .before .before .before .before .before .before .before .before .before .before .pre .0,
       part-long (o .k) (o .numbers) (omega (arith, o .inv .0, o .inv .3 .room, o .inv .3 .long, four-at-most (a .h))),
       q .pairs-le,
@@ -93,27 +128,49 @@ read-slot-requires c κs =
     )
 
 mul-answers : tie.Need-mul-answers Inv-loop μ-loop
-mul-answers c = omega (arith, c .before .before .before .before .before .before .before .before .loop .inv .0, four-at-most (c .before .before .before .before .before .before .before .before .before .before .before .before .before .before .args .h))
+mul-answers c =
+    omega (
+      arith,
+      c .before .before .before .before .before .before .before .before .loop .inv .0,
+      four-at-most
+          (c .before .before .before .before .before .before .before .before .before .before .before .before .before .before .args .h),
+    )
 
 array-set-from-answers : tie.Need-array-set-from-answers Inv-loop μ-loop
-array-set-from-answers c = omega (arith, c .before .before .before .before .before .before .before .before .loop .inv .0, four-at-most (c .before .before .before .before .before .before .before .before .before .before .before .before .before .before .args .h))
+array-set-from-answers c =
+    omega (
+      arith,
+      c .before .before .before .before .before .before .before .before .loop .inv .0,
+      four-at-most
+          (c .before .before .before .before .before .before .before .before .before .before .before .before .before .before .args .h),
+    )
 
 cast-at : tie.Need-cast-at Inv-loop μ-loop
 cast-at c =
     let a = c .before .before .before .before .before .before .before .before .before .before .before .before .before .before .before .args in
     let o = c .before .before .before .before .before .before .before .before .before .loop in
-    let q = record-at (a .h) (a .t3) (c .before .before .before .before .before .before .before .before .before .before .before .before .before .before .before .pre .2) (o .k) (omega (arith, o .inv .0)) pastRecord in
+    let q = record-at (a .h) (a .t3)
+    (c .before .before .before .before .before .before .before .before .before .before .before .before .before .before .before .pre .2) (o .k)
+    (omega (arith, o .inv .0)) pastRecord in
     omega (arith, q .length-lt)
 
 add-at : tie.Need-add-at Inv-loop μ-loop
 add-at c =
     let a = c .before .before .before .before .before .before .before .before .before .before .before .before .before .before .before .args in
     let o = c .before .before .before .before .before .before .before .before .before .loop in
-    let q = record-at (a .h) (a .t3) (c .before .before .before .before .before .before .before .before .before .before .before .before .before .before .before .pre .2) (o .k) (omega (arith, o .inv .0)) pastRecord in
+    let q = record-at (a .h) (a .t3)
+    (c .before .before .before .before .before .before .before .before .before .before .before .before .before .before .before .pre .2) (o .k)
+    (omega (arith, o .inv .0)) pastRecord in
     omega (arith, q .length-lt, o .inv .3 .near, o .inv .0, four-at-most (a .h))
 
 add-k : tie.Need-add-k Inv-loop μ-loop
-add-k c = omega (arith, c .before .before .before .before .before .before .before .before .before .loop .inv .0, four-at-most (c .before .before .before .before .before .before .before .before .before .before .before .before .before .before .before .args .h))
+add-k c =
+    omega (
+      arith,
+      c .before .before .before .before .before .before .before .before .before .loop .inv .0,
+      four-at-most
+          (c .before .before .before .before .before .before .before .before .before .before .before .before .before .before .before .args .h),
+    )
 
 loop-less : tie.Need-loop-less Inv-loop μ-loop
 loop-less c = omega arith
@@ -122,18 +179,25 @@ loop-again : tie.Need-loop-again Inv-loop μ-loop
 loop-again c =
     let a = c .before .before .before .before .before .before .before .before .before .before .before .before .before .before .before .args in
     let o = c .before .before .before .before .before .before .before .before .before .loop in
-    let q = record-at (a .h) (a .t3) (c .before .before .before .before .before .before .before .before .before .before .before .before .before .before .before .pre .2) (o .k) (omega (arith, o .inv .0)) pastRecord in (
+    let q = record-at (a .h) (a .t3)
+    (c .before .before .before .before .before .before .before .before .before .before .before .before .before .before .before .pre .2) (o .k)
+    (omega (arith, o .inv .0)) pastRecord in (
       o .inv .0,
       o .inv .1,
       omega arith,
-      turning-part _ _ _ _ _ _ _ _ (o .inv .3) (c .before .before .before .before .before .before .before .before .before .before .before .before .before .before .before .pre .2) _ _ _ _ _ _ (omega (arith, o .inv .0)) q (c .before .before .before .before .before .setting-of .ensures) (rw (o .inv .1) at (c .before .before .before .before .before .before .mate-of .ensures)) (c .before .before .read-slot .ensures),
+      turning-part _ _ _ _ _ _ _ _ (o .inv .3)
+          (c .before .before .before .before .before .before .before .before .before .before .before .before .before .before .before .pre .2) _ _ _ _ _ _
+          (omega (arith, o .inv .0)) q (c .before .before .before .before .before .setting-of .ensures)
+          (rw (o .inv .1) at (c .before .before .before .before .before .before .mate-of .ensures)) (c .before .before .read-slot .ensures),
     )
 
 same-length : tie.Need-same-length Inv-loop μ-loop
 same-length c = c .before .loop .inv .3 .long
 
 returns : tie.Need-returns Inv-loop μ-loop
-returns c = turning-end _ _ _ _ _ _ _ _ (c .before .loop .inv .3) (four-slots _ _ (c .before .before .before .before .before .before .before .pre .2)) (omega (arith, c .before .loop .inv .0))
+returns c =
+    turning-end _ _ _ _ _ _ _ _ (c .before .loop .inv .3) (four-slots _ _ (c .before .before .before .before .before .before .before .pre .2))
+    (omega (arith, c .before .loop .inv .0))
 
 pub slots-from-spec : {M : Type 1} → statement M
 slots-from-spec =

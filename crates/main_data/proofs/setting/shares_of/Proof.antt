@@ -14,7 +14,9 @@ use Rattle.main_data.proofs.setting.shares_of.Statement.{statement}
 use Rattle.main_data.proofs.setting.shares_of.Tie as tie
 
 -- the test goes by the record's shape
-shared : (c : tie.After-shares-nothing) → c .shares-nothing .result ≡ ltb (c .before .before .before .args .n) (c .before .before .channel-count .result) || not (mayShare (shapeOf (c .before .before .before .args .r)))
+shared : (c : tie.After-shares-nothing)
+    → c .shares-nothing .result
+    ≡ ltb (c .before .before .before .args .n) (c .before .before .channel-count .result) || not (mayShare (shapeOf (c .before .before .before .args .r)))
 shared c =
     let a = c .before .before .before .args in
     c .shares-nothing .ensures ∙ ap (λ (k : Shape). ltb (a .n) (c .before .before .channel-count .result) || not (mayShare k)) (c .before .shape-of .ensures)

@@ -26,7 +26,8 @@ returns : tie.Need-returns
 returns c =
     let factors = c .before .before in
     let a = factors .before .before .before .before .args in
-    let over = slot-factors (a .g) (a .r) (a .lost) (a .old) (now (a .main)) (a .at) (omega (arith, factors .read-scale-factors .ensures .0, c .before .if1 .taken)) in
+    let over = slot-factors (a .g) (a .r) (a .lost) (a .old) (now (a .main)) (a .at)
+    (omega (arith, factors .read-scale-factors .ensures .0, c .before .if1 .taken)) in
     stopped-read over (c .not-read .ensures) refl
 
 share-lost-requires : tie.Need-share-lost-requires
@@ -41,7 +42,9 @@ returns-2 c =
     let factors = fits .before in
     let a = factors .before .before .before .before .args in
     let lost = sym (c .before .before .share-lost .ensures) ∙ c .before .if2 .taken in
-    stopped-read (slot-lost (a .g) (a .r) (a .lost) (a .old) (now (a .main)) (a .at) (omega (arith, factors .read-scale-factors .ensures .0, fits .if1 .left)) lost) (c .not-read2 .ensures) refl
+    stopped-read
+    (slot-lost (a .g) (a .r) (a .lost) (a .old) (now (a .main)) (a .at) (omega (arith, factors .read-scale-factors .ensures .0, fits .if1 .left)) lost)
+    (c .not-read2 .ensures) refl
 
 add-read-huffman : tie.Need-add-read-huffman
 add-read-huffman c = search needs

@@ -31,7 +31,8 @@ array-read-if4 : tie.Need-array-read-if4
 array-read-if4 c = search needs
 
 returns-4 : tie.Need-returns-4
-returns-4 c = sym (ap (λ (x : Bool). x && c .before .before .before .before .args .lost) (any-set (c .before .before .before .before .args .t1) 3 (c .if4 .taken)))
+returns-4 c =
+    sym (ap (λ (x : Bool). x && c .before .before .before .before .args .lost) (any-set (c .before .before .before .before .args .t1) 3 (c .if4 .taken)))
 
 returns-5 : tie.Need-returns-5
 returns-5 c =

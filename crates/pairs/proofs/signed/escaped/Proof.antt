@@ -26,7 +26,13 @@ unfolding twoOf twoFirst
 returns c = rw (sym (c .before .before .number .ensures) ∙ c .enum-told .given .1)
 
 add-b : tie.Need-add-b
-add-b c = omega (arith, number-within _ _ _ _ _ _ (omega arith) (sym (c .before .p .given .1) ∙ c .before .before .before .number .ensures), c .before .before .before .before .before .fits .end)
+add-b c =
+    omega (
+      arith,
+      number-within _ _ _ _ _ _ (omega arith)
+          (sym (c .before .p .given .1) ∙ c .before .before .before .number .ensures),
+      c .before .before .before .before .before .fits .end,
+    )
 
 number-requires-2 : tie.Need-number-requires-2
 number-requires-2 c κs = search needs
@@ -39,16 +45,36 @@ enum-told-2 c = search needs
 
 returns-2 : tie.Need-returns-2
 unfolding twoOf twoFirst twoLast
-returns-2 c = rw (sym (c .before .before .before .before .before .before .number .ensures) ∙ c .before .before .before .before .p .given .1, between-drop, sym (c .before .before .number2 .ensures) ∙ c .enum-told2 .given .1)
+returns-2 c =
+    rw (
+      sym (c .before .before .before .before .before .before .number .ensures)
+          ∙ c .before .before .before .before .p .given .1,
+      between-drop,
+      sym (c .before .before .number2 .ensures) ∙ c .enum-told2 .given .1,
+    )
 
 add-t16 : tie.Need-add-t16
 add-t16 c =
-    let m = number-within _ _ _ _ _ _ (omega arith) (sym (c .before .before .before .before .before .p .given .1) ∙ c .before .before .before .before .before .before .before .number .ensures) in
-    omega (arith, m, number-within _ _ _ _ _ _ (omega arith) (sym (c .before .q .given .1) ∙ c .before .before .before .number2 .ensures), c .before .before .before .before .before .before .before .before .before .fits .end)
+    let m = number-within _ _ _ _ _ _ (omega arith)
+    (sym (c .before .before .before .before .before .p .given .1) ∙ c .before .before .before .before .before .before .before .number .ensures) in
+    omega (
+      arith,
+      m,
+      number-within _ _ _ _ _ _ (omega arith)
+          (sym (c .before .q .given .1) ∙ c .before .before .before .number2 .ensures),
+      c .before .before .before .before .before .before .before .before .before .fits .end,
+    )
 
 returns-3 : tie.Need-returns-3
 unfolding twoOf twoFirst twoLast
-returns-3 c = rw (sym (c .before .before .before .before .before .before .before .number .ensures) ∙ c .before .before .before .before .before .p .given .1, between-drop, sym (c .before .before .before .number2 .ensures) ∙ c .before .q .given .1) (search needs)
+returns-3 c =
+    rw (
+      sym (c .before .before .before .before .before .before .before .number .ensures)
+          ∙ c .before .before .before .before .before .p .given .1,
+      between-drop,
+      sym (c .before .before .before .number2 .ensures) ∙ c .before .q .given .1,
+    )
+    (search needs)
 
 pub escaped-spec : {M : Type 1} → statement M
 escaped-spec =

@@ -32,7 +32,8 @@ left-requires c κs = search needs
 returns-2 : tie.Need-returns-2
 returns-2 c =
     let a = c .before .before .before .before .before .args in
-    sym (escape-cut (escapeWidth (a .table)) (a .value) (now (a .s)) (a .at) (a .end) (c .before .before .before .if1 .left) (omega (arith, c .before .left .ensures, c .before .before .escape-width .ensures)))
+    sym (escape-cut (escapeWidth (a .table)) (a .value) (now (a .s)) (a .at) (a .end) (c .before .before .before .if1 .left)
+    (omega (arith, c .before .left .ensures, c .before .before .escape-width .ensures)))
 
 field-requires : tie.Need-field-requires
 field-requires c κs = search needs
@@ -48,9 +49,11 @@ returns-3 c =
     let a = c .before .before .before .before .before .before .args in
     let w = c .before .before .before .escape-width .ensures in
     let h : escapeWidth (a .table) ≤ (a .end) - (a .at) = omega (arith, c .before .before .left .ensures) in
-    let k : min (c .before .before .before .escape-width .result) 16 ≡ c .before .before .before .escape-width .result = omega (arith, w, escape-le (a .table)) in
+    let k : min (c .before .before .before .escape-width .result) 16
+    ≡ c .before .before .before .escape-width .result = omega (arith, w, escape-le (a .table)) in
     let f : c .field .result ≡ fieldAt (now (a .s)) (a .at) (escapeWidth (a .table)) = c .field .ensures ∙ ap (fieldAt (now (a .s)) (a .at)) (k ∙ w) in
-    (λ j. Sized (15 + f j) (w j)) ∙ sym (escape-whole (escapeWidth (a .table)) (a .value) (now (a .s)) (a .at) (a .end) (c .before .before .before .before .if1 .left) h)
+    (λ j. Sized (15 + f j) (w j))
+    ∙ sym (escape-whole (escapeWidth (a .table)) (a .value) (now (a .s)) (a .at) (a .end) (c .before .before .before .before .if1 .left) h)
 
 pub magnitude-spec : {M : Type 1} → statement M
 magnitude-spec =

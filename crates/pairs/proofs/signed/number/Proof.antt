@@ -27,10 +27,17 @@ unfolding numberIn thenSign
 returns c = rw (sym (c .before .before .magnitude .ensures) ∙ c .enum-told .given .1)
 
 add-b : tie.Need-add-b
-add-b c = omega (arith, magnitude-within _ _ _ _ _ _ (omega arith) (sym (c .before .v .given .1) ∙ c .before .before .before .magnitude .ensures), c .before .before .before .before .before .fits .end)
+add-b c =
+    omega (
+      arith,
+      magnitude-within _ _ _ _ _ _ (omega arith)
+          (sym (c .before .v .given .1) ∙ c .before .before .before .magnitude .ensures),
+      c .before .before .before .before .before .fits .end,
+    )
 
 with-sign-requires : tie.Need-with-sign-requires
-with-sign-requires c κs = omega (arith, magnitude-within _ _ _ _ _ _ (omega arith) (sym (c .before .v .given .1) ∙ c .before .before .before .magnitude .ensures))
+with-sign-requires c κs =
+    omega (arith, magnitude-within _ _ _ _ _ _ (omega arith) (sym (c .before .v .given .1) ∙ c .before .before .before .magnitude .ensures))
 
 enum-known-z : tie.Need-enum-known-z
 enum-known-z c = search needs
@@ -40,16 +47,36 @@ enum-told-2 c = search needs
 
 returns-2 : tie.Need-returns-2
 unfolding numberIn thenSign further
-returns-2 c = rw (sym (c .before .before .before .before .before .before .magnitude .ensures) ∙ c .before .before .before .before .v .given .1, between-drop, sym (c .before .before .with-sign .ensures) ∙ c .enum-told2 .given .1)
+returns-2 c =
+    rw (
+      sym (c .before .before .before .before .before .before .magnitude .ensures)
+          ∙ c .before .before .before .before .v .given .1,
+      between-drop,
+      sym (c .before .before .with-sign .ensures) ∙ c .enum-told2 .given .1,
+    )
 
 add-t13 : tie.Need-add-t13
 add-t13 c =
-    let m = magnitude-within _ _ _ _ _ _ (omega arith) (sym (c .before .before .before .before .before .v .given .1) ∙ c .before .before .before .before .before .before .before .magnitude .ensures) in
-    omega (arith, m, signed-within _ _ _ _ _ (m .0) (sym (c .before .z .given .1) ∙ c .before .before .before .with-sign .ensures), c .before .before .before .before .before .before .before .before .before .fits .end)
+    let m = magnitude-within _ _ _ _ _ _ (omega arith)
+    (sym (c .before .before .before .before .before .v .given .1) ∙ c .before .before .before .before .before .before .before .magnitude .ensures) in
+    omega (
+      arith,
+      m,
+      signed-within _ _ _ _ _ (m .0)
+          (sym (c .before .z .given .1) ∙ c .before .before .before .with-sign .ensures),
+      c .before .before .before .before .before .before .before .before .before .fits .end,
+    )
 
 returns-3 : tie.Need-returns-3
 unfolding numberIn thenSign further
-returns-3 c = rw (sym (c .before .before .before .before .before .before .before .magnitude .ensures) ∙ c .before .before .before .before .before .v .given .1, between-drop, sym (c .before .before .before .with-sign .ensures) ∙ c .before .z .given .1) (search needs)
+returns-3 c =
+    rw (
+      sym (c .before .before .before .before .before .before .before .magnitude .ensures)
+          ∙ c .before .before .before .before .before .v .given .1,
+      between-drop,
+      sym (c .before .before .before .with-sign .ensures) ∙ c .before .z .given .1,
+    )
+    (search needs)
 
 pub number-spec : {M : Type 1} → statement M
 number-spec =

@@ -27,7 +27,13 @@ unfolding twoOf twoFirst
 returns c = rw (plain-number 0 _ _ (c .before .before .before .before .pre .0) ∙ (sym (c .before .before .with-sign .ensures) ∙ c .enum-told .given .1))
 
 add-b : tie.Need-add-b
-add-b c = omega (arith, signed-within _ _ _ _ _ (omega arith) (sym (c .before .v .given .1) ∙ c .before .before .before .with-sign .ensures), c .before .before .before .before .before .fits .end)
+add-b c =
+    omega (
+      arith,
+      signed-within _ _ _ _ _ (omega arith)
+          (sym (c .before .v .given .1) ∙ c .before .before .before .with-sign .ensures),
+      c .before .before .before .before .before .fits .end,
+    )
 
 with-sign-requires-2 : tie.Need-with-sign-requires-2
 with-sign-requires-2 c κs = search needs
@@ -42,23 +48,34 @@ returns-2 : tie.Need-returns-2
 unfolding twoOf twoFirst twoLast
 returns-2 c =
     rw (
-      plain-number 0 _ _ (c .before .before .before .before .before .before .before .before .pre .0) ∙ (sym (c .before .before .before .before .before .before .with-sign .ensures) ∙ c .before .before .before .before .v .given .1),
+      plain-number 0 _ _ (c .before .before .before .before .before .before .before .before .pre .0)
+          ∙ (sym (c .before .before .before .before .before .before .with-sign .ensures) ∙ c .before .before .before .before .v .given .1),
       between-drop,
-      plain-number 0 _ _ (c .before .before .before .before .before .before .before .before .pre .1) ∙ (sym (c .before .before .with-sign2 .ensures) ∙ c .enum-told2 .given .1),
+      plain-number 0 _ _ (c .before .before .before .before .before .before .before .before .pre .1)
+          ∙ (sym (c .before .before .with-sign2 .ensures) ∙ c .enum-told2 .given .1),
     )
 
 add-t16 : tie.Need-add-t16
 add-t16 c =
-    let m = signed-within _ _ _ _ _ (omega arith) (sym (c .before .before .before .before .before .v .given .1) ∙ c .before .before .before .before .before .before .before .with-sign .ensures) in
-    omega (arith, m, signed-within _ _ _ _ _ (omega arith) (sym (c .before .w .given .1) ∙ c .before .before .before .with-sign2 .ensures), c .before .before .before .before .before .before .before .before .before .fits .end)
+    let m = signed-within _ _ _ _ _ (omega arith)
+    (sym (c .before .before .before .before .before .v .given .1) ∙ c .before .before .before .before .before .before .before .with-sign .ensures) in
+    omega (
+      arith,
+      m,
+      signed-within _ _ _ _ _ (omega arith)
+          (sym (c .before .w .given .1) ∙ c .before .before .before .with-sign2 .ensures),
+      c .before .before .before .before .before .before .before .before .before .fits .end,
+    )
 
 returns-3 : tie.Need-returns-3
 unfolding twoOf twoFirst twoLast
 returns-3 c =
     rw (
-      plain-number 0 _ _ (c .before .before .before .before .before .before .before .before .before .pre .0) ∙ (sym (c .before .before .before .before .before .before .before .with-sign .ensures) ∙ c .before .before .before .before .before .v .given .1),
+      plain-number 0 _ _ (c .before .before .before .before .before .before .before .before .before .pre .0)
+          ∙ (sym (c .before .before .before .before .before .before .before .with-sign .ensures) ∙ c .before .before .before .before .before .v .given .1),
       between-drop,
-      plain-number 0 _ _ (c .before .before .before .before .before .before .before .before .before .pre .1) ∙ (sym (c .before .before .before .with-sign2 .ensures) ∙ c .before .w .given .1),
+      plain-number 0 _ _ (c .before .before .before .before .before .before .before .before .before .pre .1)
+          ∙ (sym (c .before .before .before .with-sign2 .ensures) ∙ c .before .w .given .1),
     )
     (search needs)
 

@@ -24,7 +24,14 @@ sign-of-requires : tie.Need-sign-of-requires
 sign-of-requires c κs = search needs
 
 returns-3 : tie.Need-returns-3
-returns-3 c = rw (between-cons _ _ _ (c .before .before .if2 .left), signed-some _ (c .before .before .before .if1 .left), ← (c .before .bit .ensures), ← (c .sign-of .ensures)) (search needs)
+returns-3 c =
+    rw (
+      between-cons _ _ _ (c .before .before .if2 .left),
+      signed-some _ (c .before .before .before .if1 .left),
+      ← (c .before .bit .ensures),
+      ←
+          (c .sign-of .ensures),
+    ) (search needs)
 
 pub with-sign-spec : {M : Type 1} → statement M
 with-sign-spec = tie.close (tie.spec returns returns-2 bit-requires sign-of-requires returns-3)

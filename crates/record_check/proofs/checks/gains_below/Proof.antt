@@ -32,7 +32,8 @@ returns c =
     let d = c .before .before in
     let a = d .before .args in
     let l : length (a .t1) ≡ 3 = search needs in
-    rw (d .gain-number .ensures, c .before .gain-number2 .ensures, c .gain-number3 .ensures) (trio-of (gainBelow (a .n)) (gainBelow (a .n)) (gainBelow (a .n)) nan (a .t1) l)
+    rw (d .gain-number .ensures, c .before .gain-number2 .ensures, c .gain-number3 .ensures)
+    (trio-of (gainBelow (a .n)) (gainBelow (a .n)) (gainBelow (a .n)) nan (a .t1) l)
 
 pub gains-below-spec : {M : Type 1} → statement M
 gains-below-spec =

@@ -50,7 +50,8 @@ returns-2 c =
     let a = d .before .args in
     let l : length (a .t2) ≡ 8 = search needs in
     let h : length (a .t2) ≤ d .loop .i = omega arith in
-    sym (all-end (sharesFrom (a .n)) (shareTest (a .n)) (shares-step (a .n)) false (d .loop .inv) h (shares-none (a .n) (length (a .t2)))) ∙ shares-are (a .n) (a .t2) l
+    sym (all-end (sharesFrom (a .n)) (shareTest (a .n)) (shares-step (a .n)) false (d .loop .inv) h (shares-none (a .n) (length (a .t2))))
+    ∙ shares-are (a .n) (a .t2) l
 
 pub no-shares-spec : {M : Type 1} → statement M
 no-shares-spec =

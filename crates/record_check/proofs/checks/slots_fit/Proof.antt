@@ -34,7 +34,8 @@ returns c =
     let a = d .before .args in
     let l : length (a .t3) ≡ 4 = search needs in
     let h : d .loop .i < length (a .t3) = omega arith in
-    sym (all-stop (slotsFrom (a .mpeg1) (a .n)) (slotTest (a .mpeg1) (a .n)) (slots-step (a .mpeg1) (a .n)) pastSlot (d .loop .inv) h (sym (c .before .slot-fits .ensures) ∙ not-true _ (c .if1 .taken))) ∙ slots-are (a .mpeg1) (a .n) (a .t3) l
+    sym (all-stop (slotsFrom (a .mpeg1) (a .n)) (slotTest (a .mpeg1) (a .n)) (slots-step (a .mpeg1) (a .n)) pastSlot (d .loop .inv) h
+    (sym (c .before .slot-fits .ensures) ∙ not-true _ (c .if1 .taken))) ∙ slots-are (a .mpeg1) (a .n) (a .t3) l
 
 add-i : tie.Need-add-i Inv-loop μ-loop
 add-i c = search needs
@@ -48,7 +49,8 @@ loop-again c =
     let a = d .before .args in
     let l : length (a .t3) ≡ 4 = search needs in
     let h : d .loop .i < length (a .t3) = omega arith in
-    all-turn (slotsFrom (a .mpeg1) (a .n)) (slotTest (a .mpeg1) (a .n)) (slots-step (a .mpeg1) (a .n)) pastSlot (d .loop .inv) h (sym (c .before .slot-fits .ensures) ∙ not-false _ (c .if1 .left))
+    all-turn (slotsFrom (a .mpeg1) (a .n)) (slotTest (a .mpeg1) (a .n)) (slots-step (a .mpeg1) (a .n)) pastSlot (d .loop .inv) h
+    (sym (c .before .slot-fits .ensures) ∙ not-false _ (c .if1 .left))
 
 returns-2 : tie.Need-returns-2 Inv-loop μ-loop
 returns-2 c =
@@ -57,7 +59,8 @@ returns-2 c =
     let l : length (a .t3) ≡ 4 = search needs in
     let h : length (a .t3) ≤ d .loop .i = omega arith in
     let k : a .n ≤ length (a .t3) = omega arith in
-    sym (all-end (slotsFrom (a .mpeg1) (a .n)) (slotTest (a .mpeg1) (a .n)) (slots-step (a .mpeg1) (a .n)) pastSlot (d .loop .inv) h (slots-none (a .mpeg1) (a .n) (length (a .t3)) k)) ∙ slots-are (a .mpeg1) (a .n) (a .t3) l
+    sym (all-end (slotsFrom (a .mpeg1) (a .n)) (slotTest (a .mpeg1) (a .n)) (slots-step (a .mpeg1) (a .n)) pastSlot (d .loop .inv) h
+    (slots-none (a .mpeg1) (a .n) (length (a .t3)) k)) ∙ slots-are (a .mpeg1) (a .n) (a .t3) l
 
 pub slots-fit-spec : {M : Type 1} → statement M
 slots-fit-spec =

@@ -16,7 +16,9 @@ returns : tie.Need-returns
 unfolding planOf
 returns c =
     let a = c .before .before .before .before .args in
-    c .mpeg1-plan .ensures ∙ (λ j. planBy (sym (c .before .if1 .taken) j) (a .g .intensity) (a .g .shares) (c .before .before .before .shape-of .ensures j) (a .r .«scalefac_compress»))
+    c .mpeg1-plan .ensures
+    ∙ (λ j. planBy (sym (c .before .if1 .taken) j) (a .g .intensity) (a .g .shares) (c .before .before .before .shape-of .ensures j)
+    (a .r .«scalefac_compress»))
 
 lfs-plan-requires : tie.Need-lfs-plan-requires
 lfs-plan-requires c κs = search needs
@@ -25,7 +27,8 @@ returns-2 : tie.Need-returns-2
 unfolding planOf
 returns-2 c =
     let a = c .before .before .before .before .args in
-    c .lfs-plan .ensures ∙ (λ j. planBy (sym (c .before .if1 .left) j) (a .g .intensity) (a .g .shares) (c .before .before .before .shape-of .ensures j) (a .r .«scalefac_compress»))
+    c .lfs-plan .ensures
+    ∙ (λ j. planBy (sym (c .before .if1 .left) j) (a .g .intensity) (a .g .shares) (c .before .before .before .shape-of .ensures j) (a .r .«scalefac_compress»))
 
 pub plan-of-spec : {M : Type 1} → statement M
 plan-of-spec =

@@ -63,7 +63,8 @@ returns c =
     let p = d .before in
     let a = p .before .before .before .before .args in
     let x = compress-there (a .mpeg1) (now (a .s)) (a .at) (p .before .compress-width .ensures) (p .word2 .ensures) in
-    common-read (a .mpeg1) (now (a .s)) (a .at) (p .before .before .word .ensures) x (c .before .before .record-width .ensures) (d .read-preflag .ensures x) (c .before .bit .ensures) (c .bit2 .ensures)
+    common-read (a .mpeg1) (now (a .s)) (a .at) (p .before .before .word .ensures) x (c .before .before .record-width .ensures) (d .read-preflag .ensures x)
+    (c .before .bit .ensures) (c .bit2 .ensures)
 
 pub read-common-spec : {M : Type 1} → statement M
 read-common-spec =

@@ -39,10 +39,12 @@ returns c =
     records-stop (d .before .before .loop .inv) (d .read-record .ensures) (c .enum-told2 .given .1) (d .before .loop-test .taken)
 
 mul-slots : tie.Need-mul-slots Inv-loop μ-loop
-mul-slots c = let d = c .before .before .before .before .before in omega (arith, d .before .before .before .before .pre, c .before .before .before .before .loop-test)
+mul-slots c =
+    let d = c .before .before .before .before .before in omega (arith, d .before .before .before .before .pre, c .before .before .before .before .loop-test)
 
 array-set-from-slots : tie.Need-array-set-from-slots Inv-loop μ-loop
-array-set-from-slots c = let d = c .before .before .before .before .before in omega (arith, d .before .before .before .before .pre, c .before .before .before .before .loop-test)
+array-set-from-slots c =
+    let d = c .before .before .before .before .before in omega (arith, d .before .before .before .before .pre, c .before .before .before .before .loop-test)
 
 add-at : tie.Need-add-at Inv-loop μ-loop
 add-at c =
@@ -51,7 +53,8 @@ add-at c =
     omega (arith, d .loop .inv .place, d .loop .inv .some, a .pre, d .before .before .record-width .ensures, width (a .args .mpeg1))
 
 add-i : tie.Need-add-i Inv-loop μ-loop
-add-i c = let d = c .before .before .before .before .before in omega (arith, d .before .before .before .before .pre, c .before .before .before .before .loop-test)
+add-i c =
+    let d = c .before .before .before .before .before in omega (arith, d .before .before .before .before .pre, c .before .before .before .before .loop-test)
 
 loop-less : tie.Need-loop-less Inv-loop μ-loop
 loop-less c = search needs
@@ -60,7 +63,8 @@ loop-again : tie.Need-loop-again Inv-loop μ-loop
 loop-again c =
     let d = c .before .before .before .before .before in
     let a = d .before .before .before .before in
-    records-turn (d .loop .inv) (c .before .before .before .read-record .ensures) (c .before .enum-told .given .1) (d .before .before .record-width .ensures) (c .before .before .before .before .loop-test .taken) (a .pre .1)
+    records-turn (d .loop .inv) (c .before .before .before .read-record .ensures) (c .before .enum-told .given .1) (d .before .before .record-width .ensures)
+    (c .before .before .before .before .loop-test .taken) (a .pre .1)
 
 returns-2 : tie.Need-returns-2 Inv-loop μ-loop
 returns-2 c = records-end (c .before .loop .inv) (c .loop-test .left)
