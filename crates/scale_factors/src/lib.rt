@@ -188,7 +188,7 @@ fn short_factors(shape: Shape, fs: [u8; 36], n: usize) -> [u8; 39]
 }
 
 // The factors of a slot that starts at a bit place, `old` being the long ones of its channel in granule 0. Short bands share nothing and
-// are read without these: two calls, which the compiler keeps out of the loops over a slot's numbers (docs/PERFORMANCE.md).
+// are read without these; read apart, both leave the loops over a slot's numbers faster (docs/PERFORMANCE.md).
 pub fn read_scale_factors(g: Setting, r: SlotRecord, old: [u8; 22], s: &[u8], at: u32) -> Factors
     ensures { λ f. ⌜ (f .bits ≡ planBits (sourcesOf (planOf g r)))
         × (f .long ≡ longFactors (g .mpeg1) (shapeOf r) (factorsAt g r old (now (s .entry)) at))
