@@ -123,13 +123,12 @@ def headers():
 
 def chosen(all_streams):
     """F, and frames with a short block, under intensity stereo, with a CRC, and of MPEG-1 in stereo and in mono, each with the two frames before it,
-    which it may reach back to."""
+    which it may reach back to. Those of streams that are not there are left out."""
     def pick(name, fits):
-        fs = frames(all_streams[name])
-        k = next(k for k in range(2, len(fs)) if fits(fs[k]))
-        return b''.join(fs[max(0, k - 2):k]), fs[k]
+        fs = frames(all_streams.get(name, b''))
+        return next(((b''.join(fs[k - 2:k]), fs[k]) for k in range(2, len(fs)) if fits(fs[k])), None)
     joint = lambda f: f[3] >> 6 == 1 and f[3] >> 4 & 1
-    return {
+    picked = {
         'F': (b'', F),
         'short': pick('m25-12000-mono-8.mp3', lambda f: f[9] & 1 and f[10] >> 6 == 2),
         'allshort': pick('m2-24000-allshort.mp3', lambda f: True),
@@ -138,6 +137,7 @@ def chosen(all_streams):
         'stereo': pick('m1-44100-allshort.mp3', lambda f: True),
         'mono': pick('m1-44100-mono-32.mp3', lambda f: True),
     }
+    return {name: f for name, f in picked.items() if f}
 
 
 def flips(before, f):
@@ -223,7 +223,7 @@ def damaged_head(rng, card):
 def damaged(all_streams, seed, count):
     """Damaged copies of streams, of two to six frames each from any frame on."""
     rng = random.Random(seed)
-    cut = [frames(s) for s in all_streams.values()]
+    cut = [fs for fs in map(frames, all_streams.values()) if fs]
     out = []
     while len(out) < count:
         fs = rng.choice(cut)
@@ -244,6 +244,6 @@ def all_inputs(folder):
         yield 'flips of ' + name, True, flips(before, f)
         yield 'cuts of ' + name, True, cuts(before, f)
     yield 'fields', False, fields()
-    for seed in range(24):
+    for seed in range(24 if any(map(frames, s.values())) else 0):
         yield 'damaged copies %d' % seed, True, damaged(s, seed, 1000)
     yield 'noise', True, [random.Random(n).randbytes(3000) for n in range(200)]
