@@ -69,13 +69,23 @@ static void print_slots(const uint8_t *frame, size_t n) {
     for (size_t slot = 0; slot < FRONT_END_SLOTS; slot++) print_slot(frame, n, slot);
 }
 
-/* What a frame that the card cuts off still holds, where it reaches back to nothing. */
-static void print_cut(const uint8_t *frame, size_t n) {
+/* What a frame that the card cuts off still holds: its main data begins main_data_begin bytes back, among the `kept` bytes of the
+   reservoir. Where those are not there, its slots are not known. */
+static void print_cut(const uint8_t *frame, size_t n, size_t kept) {
+    static uint8_t main_data[FRONT_END_RESERVOIR];
     front_end_frame_sizes sizes = front_end_sizes(frame, n);
     size_t before = sizes.header + sizes.side;
     if (sizes.refusal || n <= before) return;
-    if (front_end_slots(frame, n, frame + before, n - before, numbers, FRONT_END_NUMBERS, slots, FRONT_END_ROWS)) return;
-    printf("from the %zu of its %zu bytes of main data that are there:\n", n - before, sizes.main);
+    size_t back = front_end_main_data_begin(frame, &sizes), own = n - before;
+    if (own > sizes.main) own = sizes.main;
+    if (back > kept) {
+        printf("it reaches back %zu bytes, and %zu are held\n", back, kept);
+        return;
+    }
+    memcpy(main_data, reservoir + kept - back, back);
+    memcpy(main_data + back, frame + before, own);
+    if (front_end_slots(frame, n, main_data, back + own, numbers, FRONT_END_NUMBERS, slots, FRONT_END_ROWS)) return;
+    printf("from the %zu of its %zu bytes of main data that are there:\n", own, sizes.main);
     print_slots(frame, n);
 }
 
@@ -91,7 +101,6 @@ int main(void) {
         if (!n) break;
         front_end_frame_told told = front_end_frame(frame, n, reservoir, sizeof reservoir, kept, numbers, FRONT_END_NUMBERS, slots, FRONT_END_ROWS);
         size_t taken = told.length ? told.length : 1;
-        kept = told.reservoir;
         if (told.length) {
             if (lost) printf("nothing was read from byte %zu to byte %zu\n", place - lost, place);
             lost = 0;
@@ -102,11 +111,12 @@ int main(void) {
         } else {
             if (!lost) {
                 printf("byte %zu refused %u: %s\n", place, told.refusal, name_of(told.refusal));
-                print_cut(frame, n);
+                if (told.refusal == FRONT_END_ABSENT_BYTES) print_cut(frame, n, kept);
             }
             lost++;
-            kept = front_end_emptied();
         }
+        /* after a gap the frames before it are not there to reach back to */
+        kept = told.length ? told.reservoir : front_end_emptied();
         begin += taken;
         place += taken;
     }

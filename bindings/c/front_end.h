@@ -1,7 +1,8 @@
 /* The front end of an MP3 Layer III reader, from the bytes on a card to the whole numbers of each slot, for C and C++.
 
    Link with libfront_end.a, which `rt staticlib front_end` makes (x86-64). It needs memcpy and memset and nothing else, allocates
-   nothing, keeps nothing between calls, and every call returns for every input.
+   nothing, keeps nothing between calls, and every call returns for every input. So calls may run in several threads at once, as long as
+   each has its own lent memory. What each answer means for a card is in docs/REFUSALS.md.
 
    A slot is one granule of one channel. The slots of a frame go granule by granule, channel by channel: MPEG-1 has 4 (mono 2), MPEG-2
    and MPEG-2.5 have 2 (mono 1).
@@ -76,7 +77,7 @@ typedef struct {
 typedef struct {
     uint8_t refusal;  /* 0, 1, or 2 to 13 */
     size_t length;    /* bytes of the frame, after 0 and 13; else 0 */
-    size_t reservoir; /* the reservoir's length now: hand it in with the next frame */
+    size_t reservoir; /* the reservoir's length now: hand it in with the next frame, or front_end_emptied() after a gap */
 } front_end_frame_told;
 
 /* What a header says of its frame. Of a refused one, all but `refusal` is 0. */
@@ -97,14 +98,28 @@ typedef struct {
 /* One frame. Lent are FRONT_END_RESERVOIR bytes of reservoir, kept from frame to frame, with the length that the last frame answered
    (front_end_emptied() before the first); FRONT_END_NUMBERS numbers; and FRONT_END_SLOTS slots, of which rows_length is the count
    of their 16-bit numbers, FRONT_END_ROWS.
+   A gap: after a frame that was refused otherwise than by 13, or where the card was left out, frames before it are not there to reach back
+   to. Hand front_end_emptied() in with the next frame, not what was answered: else it may be read from bytes that are not its own, and
+   nothing can tell. (card.c shows it.)
    Accepted: slots[n] is told, and the n-th slot's numbers are the 576 from 576 n on, save those of a slot that was refused, which
    stay, as do those past the frame's last slot. Numbers are those before the reorder. */
 front_end_frame_told front_end_frame(const uint8_t *frame, size_t frame_length, uint8_t *reservoir, size_t reservoir_size,
                                      size_t reservoir_length, int32_t *numbers, size_t numbers_length, front_end_slot *slots,
                                      size_t rows_length);
 
+/* How many bytes before its own main data the main data of a frame begins (main_data_begin), 0 to 511: of a frame whose sizes
+   front_end_sizes told, and of which at least two bytes of side information are there. */
+static inline size_t front_end_main_data_begin(const uint8_t *frame, const front_end_frame_sizes *sizes) {
+    const uint8_t *side = frame + sizes->header;
+    return sizes->granules == 2 ? (size_t)side[0] << 1 | side[1] >> 7 : side[0];
+}
+
 /* The slots of a frame from given main data of any length: what can still be read where the card has lost some. Of the frame only the
-   header and the side information are read. Answers 0, 1, or 2 to 12; numbers and slots as with front_end_frame. */
+   header and the side information are read.
+   The main data must begin where the frame's does, front_end_main_data_begin bytes back: the last so many bytes of the reservoir as it
+   was before this frame, and then the frame's own main data, as far as it is there. Where the reservoir holds fewer, do not call: from
+   other bytes this reads numbers that were never recorded, and nothing can tell.
+   Answers 0, 1, or 2 to 12; numbers and slots as with front_end_frame. A slot whose bits are not all there is refused by 20. */
 uint8_t front_end_slots(const uint8_t *frame, size_t frame_length, const uint8_t *main_data, size_t main_data_length, int32_t *numbers,
                         size_t numbers_length, front_end_slot *slots, size_t rows_length);
 

@@ -2,21 +2,30 @@
 //! that cannot be read. A safe wrapper around the proved library: nothing unsafe is left to the caller, and memory that is too small is
 //! refused by name.
 //!
+//! A [`Reader`] goes over a card, tells every frame, and empties the reservoir at every gap by itself:
+//!
 //! ```no_run
 //! let card = std::fs::read("card.mp3").unwrap();
 //! let mut numbers = [0; front_end::NUMBERS];
-//! let mut reservoir = front_end::Reservoir::new();
-//! let mut at = 0;
-//! while at < card.len() {
-//!     let frame = reservoir.frame(&card[at..], &mut numbers).unwrap();
-//!     for (n, slot) in frame.slots.iter().enumerate() {
-//!         if let front_end::Slot::Read(read) = slot {
-//!             println!("{:?}", &numbers[576 * n..576 * n + read.count]);
+//! let mut reader = front_end::Reader::new(&card);
+//! while let Some(step) = reader.next(&mut numbers) {
+//!     match step {
+//!         front_end::Step::Read { frame, .. } => {
+//!             for (n, slot) in frame.slots.iter().enumerate() {
+//!                 match slot {
+//!                     front_end::Slot::Read(read) => println!("{:?}", &numbers[front_end::SLOT * n..][..read.count]),
+//!                     front_end::Slot::Refused(why) => println!("slot {} is lost: {:?}", n, why),
+//!                     front_end::Slot::Lacking => {}
+//!                 }
+//!             }
 //!         }
+//!         front_end::Step::Short { at, .. } => println!("the frame at byte {} reaches back over a gap", at),
+//!         front_end::Step::Gap { from, to, why } => println!("nothing was read from byte {} to byte {}: {:?}", from, to, why),
 //!     }
-//!     at += frame.length;
 //! }
 //! ```
+//!
+//! [`Reservoir::frame`] and the functions below are the bare calls, for who keeps place and gaps himself.
 mod calls;
 mod refusal;
 #[cfg(test)]
@@ -77,6 +86,14 @@ pub struct RefusedFrame {
     pub length: Option<usize>,
 }
 
+impl std::fmt::Display for RefusedFrame {
+    fn fmt(&self, f: &mut std::fmt::Formatter<'_>) -> std::fmt::Result {
+        write!(f, "the frame is refused by {}: {:?}", self.refusal.number(), self.refusal)
+    }
+}
+
+impl std::error::Error for RefusedFrame {}
+
 /// What a header says of its frame, in bytes, granules, channels, samples a second and bits a second.
 #[derive(Clone, Copy, Debug, PartialEq)]
 pub struct Sizes {
@@ -123,7 +140,9 @@ impl Reservoir {
     }
 
     /// One frame, which starts at the first of the bytes; those beyond it are ignored. `numbers` are at least `NUMBERS`, else the call
-    /// is refused by `Refusal::UnfitMemory`.
+    /// is refused by `Refusal::UnfitMemory`. After a frame that was refused otherwise than by `Refusal::ShortReservoir`, and wherever
+    /// some of the card is left out, call [`Reservoir::empty`] before the next one: else that may be read from bytes that are not its own,
+    /// and nothing can tell. A [`Reader`] does.
     pub fn frame(&mut self, bytes: &[u8], numbers: &mut [i32]) -> Result<Frame, RefusedFrame> {
         let mut rows = [0; ROWS];
         let told = calls::frame(bytes, &mut self.bytes, self.length, numbers, &mut rows);
@@ -139,10 +158,110 @@ impl Reservoir {
             }),
         }
     }
+
+    /// What can still be read of a frame that the card cuts off: its slots from the bytes that it reaches back to, which this reservoir
+    /// holds as the frames before it left them, and from what is there of its own. Where too few are held, `Refusal::ShortReservoir`.
+    pub fn slots(&self, frame: &[u8], numbers: &mut [i32]) -> Result<[Slot; SLOTS], Refusal> {
+        let told = sizes(frame)?;
+        let before = told.header + told.side;
+        if frame.len() < before {
+            return Err(Refusal::AbsentBytes);
+        }
+        let side = &frame[told.header..];
+        let back = if told.granules == 2 {
+            usize::from(side[0]) << 1 | usize::from(side[1]) >> 7
+        } else {
+            usize::from(side[0])
+        };
+        if back > self.length {
+            return Err(Refusal::ShortReservoir);
+        }
+        let mut main = self.bytes[self.length - back..self.length].to_vec();
+        main.extend_from_slice(&frame[before..frame.len().min(told.length)]);
+        slots(frame, &main, numbers)
+    }
+}
+
+/// A card in memory, read frame by frame. It keeps the place and the reservoir, and empties that at every gap, so that no frame is read
+/// from bytes that are not its own.
+pub struct Reader<'a> {
+    card: &'a [u8],
+    at: usize,
+    reservoir: Reservoir,
+}
+
+/// What a reader came to.
+#[derive(Clone, Debug, PartialEq)]
+pub enum Step {
+    /// A frame that was read, and where it starts.
+    Read { at: usize, frame: Frame },
+    /// A frame that reaches back over more bytes than are held: common after a gap. Its main data is kept for those after it.
+    Short { at: usize, length: usize },
+    /// Bytes in which no frame could be read, and why the first could not.
+    Gap { from: usize, to: usize, why: Refusal },
+}
+
+impl<'a> Reader<'a> {
+    /// From the card's first byte on, with an empty reservoir.
+    pub fn new(card: &'a [u8]) -> Reader<'a> {
+        Reader {
+            card,
+            at: 0,
+            reservoir: Reservoir::new(),
+        }
+    }
+
+    /// The byte place that comes next.
+    pub fn place(&self) -> usize {
+        self.at
+    }
+
+    /// The next frame or gap, or `None` at the end of the card. Only `Step::Read` changes `numbers`, of which there are `NUMBERS`.
+    pub fn next(&mut self, numbers: &mut [i32; NUMBERS]) -> Option<Step> {
+        if self.at == self.card.len() {
+            return None;
+        }
+        let at = self.at;
+        match self.reservoir.frame(&self.card[at..], numbers) {
+            Ok(frame) => {
+                self.at += frame.length;
+                Some(Step::Read { at, frame })
+            }
+            Err(RefusedFrame { length: Some(length), .. }) => {
+                self.at += length;
+                Some(Step::Short { at, length })
+            }
+            Err(refused) => {
+                self.reservoir.empty();
+                self.at += 1;
+                while self.at < self.card.len() && !starts_frame(&self.card[self.at..]) {
+                    self.at += 1;
+                }
+                Some(Step::Gap {
+                    from: at,
+                    to: self.at,
+                    why: refused.refusal,
+                })
+            }
+        }
+    }
+}
+
+/// Whether a whole frame starts at the first of the bytes, whatever it reaches back to.
+fn starts_frame(bytes: &[u8]) -> bool {
+    if sizes(bytes).is_err() {
+        return false;
+    }
+    match Reservoir::new().frame(bytes, &mut [0; NUMBERS]) {
+        Ok(_) => true,
+        Err(refused) => refused.length.is_some(),
+    }
 }
 
 /// The slots of a frame from given main data of any length: what can still be read where the card has lost some. Of the frame only
-/// the header and the side information are read. `numbers` as for a frame.
+/// the header and the side information are read. `numbers` as for a frame. The main data must begin where the frame's does,
+/// main_data_begin bytes back: [`Reservoir::slots`] sees to that. From other bytes this reads numbers that were never recorded, and
+/// nothing can tell.
 pub fn slots(frame: &[u8], main: &[u8], numbers: &mut [i32]) -> Result<[Slot; SLOTS], Refusal> {
     let mut rows = [0; ROWS];
     match Refusal::of(calls::slots(frame, main, numbers, &mut rows)) {

@@ -112,3 +112,41 @@ fn factors_are_told() {
     }
     assert_eq!(frame.slots[1], Slot::Lacking);
 }
+
+const F: &str = "FFF314C00000400748000800017A00000000000000000000";
+
+/// A frame that reaches back, cut off: its slots come from what the frames before it left, or are not known.
+#[test]
+fn a_cut_frame_reaches_back() {
+    let mut numbers = [7; NUMBERS];
+    let mut reservoir = Reservoir::new();
+    let mut frame = bytes_of(F);
+    reservoir.frame(&frame, &mut numbers).unwrap();
+    frame[4] = 11;
+    let told = reservoir.slots(&frame[..14], &mut numbers).unwrap();
+    assert_eq!(first_slot(&told, &numbers), " 0 6 -1 0 0 0 1 0");
+    frame[4] = 12;
+    assert_eq!(reservoir.slots(&frame[..14], &mut numbers), Err(Refusal::ShortReservoir));
+    assert_eq!(reservoir.slots(&frame[..12], &mut numbers), Err(Refusal::AbsentBytes));
+}
+
+/// After a gap a reader reaches back to nothing, and goes on.
+#[test]
+fn a_reader_empties_at_a_gap() {
+    let mut numbers = [7; NUMBERS];
+    let mut back = bytes_of(F);
+    back[4] = 11;
+    let card = [bytes_of(F), back.clone(), vec![0; 3], back.clone(), back].concat();
+    let mut reader = Reader::new(&card);
+    let mut steps = Vec::new();
+    while let Some(step) = reader.next(&mut numbers) {
+        steps.push(match step {
+            Step::Read { at, frame } => format!("read {} {}", at, first_slot(&frame.slots, &numbers)),
+            Step::Short { at, length } => format!("short {} {}", at, length),
+            Step::Gap { from, to, why } => format!("gap {} {} {}", from, to, why.number()),
+        });
+    }
+    let read = " 0 6 -1 0 0 0 1 0";
+    assert_eq!(steps, [format!("read 0 {}", read), format!("read 24 {}", read), "gap 48 51 3".into(), "short 51 24".into(), format!("read 75 {}", read)]);
+    assert_eq!(reader.place(), card.len());
+}

@@ -1,0 +1,46 @@
+//! Reads a card from standard input and prints its frames and slots, as ../../c/card.c does.
+use front_end::{reorder, Reader, Slot, Step, NUMBERS, SLOT};
+use std::io::Read;
+
+fn print_slots(frame: &[u8], slots: &[Slot], numbers: &mut [i32]) {
+    for (n, slot) in slots.iter().enumerate() {
+        match slot {
+            Slot::Read(read) => {
+                let own = &mut numbers[SLOT * n..][..SLOT];
+                reorder(frame, n, own).expect("the frame was read, and has this slot");
+                let coded = own.iter().enumerate().filter(|(_, v)| **v != 0);
+                let told: String = coded.map(|(i, v)| format!(" {}:{}", i, v)).collect();
+                println!("  slot {} count {}:{}", n, read.count, told);
+            }
+            Slot::Refused(why) => println!("  slot {} refused {}: {:?}", n, why.number(), why),
+            Slot::Lacking => {}
+        }
+    }
+}
+
+fn main() -> std::io::Result<()> {
+    let mut card = Vec::new();
+    std::io::stdin().read_to_end(&mut card)?;
+    let mut numbers = [0; NUMBERS];
+    let mut reader = Reader::new(&card);
+    let mut frames = 0;
+    while let Some(step) = reader.next(&mut numbers) {
+        match step {
+            Step::Read { at, frame } => {
+                frames += 1;
+                println!("frame {} at byte {} length {}", frames, at, frame.length);
+                print_slots(&card[at..], &frame.slots, &mut numbers);
+            }
+            Step::Short { at, length } => {
+                frames += 1;
+                println!("frame {} at byte {} length {} refused 13", frames, at, length);
+            }
+            Step::Gap { from, to, why } => {
+                println!("byte {} refused {}: {:?}", from, why.number(), why);
+                println!("nothing was read from byte {} to byte {}", from, to);
+            }
+        }
+    }
+    println!("end {}", frames);
+    Ok(())
+}
