@@ -14,7 +14,7 @@ NO_BAND = 'index out of bounds: the len is 23 but the index is '
 
 SHORT = 2  # the block type
 GROUPS = ((0, 6), (6, 11), (11, 16), (16, 21))
-# MPEG-1's lengths of factors by scalefac_compress, and where the last short band starts by rate: 11172-3 and 13818-3, as document 01 has them.
+# MPEG-1's lengths of factors by scalefac_compress, and where the last short band starts by rate: 11172-3 and 13818-3, as docs/RULES.md has them.
 LENGTHS = ((0, 0), (0, 1), (0, 2), (0, 3), (3, 0), (1, 1), (1, 2), (1, 3), (2, 1), (2, 2), (2, 3), (3, 1), (3, 2), (3, 3), (4, 2), (4, 3))
 LAST_BAND = {44100: 136, 48000: 126, 32000: 180, 22050: 174, 24000: 180, 16000: 174, 11025: 174, 12000: 174, 8000: 166}
 
@@ -105,7 +105,7 @@ def reordered(f, mine):
 
 
 def refusal(f, k, start, told):
-    """The number that a slot is refused by, or None: document 01's order."""
+    """The number that a slot is refused by, or None: the order of docs/REFUSALS.md."""
     length, pairs, block, region0, region1 = (f.records[k][i] for i in (0, 1, 4, 11, 12))
     mine = f.alone[k]
     words = mine.first.split(' ')

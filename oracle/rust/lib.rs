@@ -202,7 +202,7 @@ fn slots_rows(out: &mut String, h: &FrameHeader, side: &SideInfo, main: &[u8]) {
     }
 }
 
-/// After a frame that reaches too far back document 01 keeps the old bytes and adds the frame's main data.
+/// After a frame that reaches too far back docs/RULES.md keeps the old bytes and adds the frame's main data.
 fn added(reservoir: &mut Vec<u8>, frame: &[u8], h: &FrameHeader) {
     let main = h.data_size - h.side_data_len();
     reservoir.extend_from_slice(&frame[frame.len() - main..]);
@@ -213,7 +213,7 @@ fn failed(place: usize, stage: &str, why: Failure, advance: usize) -> Tried {
     Tried { text, advance, frame: false }
 }
 
-/// The Rust on these bytes. After a failure the reservoir is what document 01 says that it is, and not what the Rust left,
+/// The Rust on these bytes. After a failure the reservoir is what docs/RULES.md says that it is, and not what the Rust left,
 /// so that what follows can be compared; the length that the Rust left is printed.
 pub fn try_at(place: usize, bytes: &[u8], reservoir: &mut Vec<u8>) -> Tried {
     let mut rest = bytes;

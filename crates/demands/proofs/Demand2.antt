@@ -2,7 +2,7 @@
 -- answers, and leaves of what was lent, is the definition's for what went in, for every input. The definitions are those of `standard`; the
 -- published codes enter by Codes.antt. Every other public function is in the catalogue, docs/PROMISES.md, and has its theorem of one answer in
 -- Unique.
--- The readers that document 01 shuts out break these lines, and are tried by name as must-fail edits: one that refuses all (main_data/refuses_all),
+-- The readers that were to be shut out break these lines, and are tried by name as must-fail edits: one that refuses all (main_data/refuses_all),
 -- one that gives 576 zeros (huffman/zeros_for_every_slot), one that writes nothing (huffman/writes_nothing), one that decodes the first slot and
 -- fakes the others (main_data/first_slot_only), and one with an invented count or frame length (huffman/invented_count, frame/invented_length).
 use mathlib.Core.Path.{_≡_}
@@ -48,7 +48,7 @@ pub frame-is : (c : FrameStep)
     (numbersAfter c)
 frame-is c = c .promised
 
--- document 01: the call for a gap on the card
+-- docs/RULES.md, Reservoir: the call for a gap on the card
 pub emptied-is : (c : EmptiedCall) → c .answer ≡ emptied
 emptied-is c = c .promised
 

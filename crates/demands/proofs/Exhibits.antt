@@ -1,4 +1,4 @@
--- No theorem of the demands has a premise that cannot be met: for each, calls that meet it. They are frame F of document 01 and its neighbours, with
+-- No theorem of the demands has a premise that cannot be met: for each, calls that meet it. They are frame F of docs/RULES.md and its neighbours, with
 -- 4,096 bytes and 2,304 numbers lent, and calls that are lent nothing. (Where a theorem says that something cannot be, as answer 25, its premise is
 -- that very thing.)
 use mathlib.Core.Path.{_≡_, refl, sym, ap, _∙_}

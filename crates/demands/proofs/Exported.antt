@@ -1,4 +1,4 @@
--- Demand 1 over what C and Rust call: the exported functions answer 0 where they accept and document 01's number where they refuse, and a refused
+-- Demand 1 over what C and Rust call: the exported functions answer 0 where they accept and the refusal's number where they refuse, and a refused
 -- call leaves the numbers, the rows and the reservoir's bytes as they were, except that after 13 the reservoir's old bytes and then the frame's
 -- main data stand in front.
 -- Proved over the promises of front_end_frame, front_end_slots and front_end_reorder, from StepLaws of `standard`, as Demand1.

@@ -1,4 +1,4 @@
--- Worked from bytes: the starred cases of document 01 are one table with a single statement. In `standard` (Worked) each row is computed from the
+-- Worked from bytes: the starred cases of docs/RULES.md are one table with a single statement. In `standard` (Worked) each row is computed from the
 -- definition; here each is what a call answers and leaves, whatever was lent, over the promises of process_frame, read_slots and reorder.
 use mathlib.Core.Path.{_≡_, sym, ap, _∙_}
 use mathlib.Core.Bool.{true}

@@ -220,7 +220,7 @@ pub fn channel_count(h: FrameHeader) -> usize
 
 // ---- what a refusal is called
 
-// Document 01's number of a refusal, for programs to print and for callers in other languages.
+// The number of a refusal (docs/REFUSALS.md), for programs to print and for callers in other languages.
 pub fn number_of(why: Refusal) -> u8
     ensures { λ r. ⌜ r ≡ numberOf why ⌝ }
 {

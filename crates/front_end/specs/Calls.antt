@@ -1,4 +1,4 @@
--- What the exported calls answer, in numbers: 0 where a call is accepted, else document 01's number of the refusal; and what they leave in
+-- What the exported calls answer, in numbers: 0 where a call is accepted, else the number of the refusal (docs/REFUSALS.md); and what they leave in
 -- lent memory. What is right is `standard`'s: here it is only laid out.
 use mathlib.Core.Path.{_≡_}
 use mathlib.Core.Bool.{_||_}

@@ -1,4 +1,4 @@
--- What document 01 has the program `slots` print, in ASCII. A slot that the frame lacks prints nothing.
+-- What the program `slots` prints (docs/RULES.md), in ASCII. A slot that the frame lacks prints nothing.
 use mathlib.Core.Bool.{Bool}
 use mathlib.Core.List.{List, [], _∷_, _++_}
 use Prim.Native.Nat.{ℕ, _*_, _/_, _%_}

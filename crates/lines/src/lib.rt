@@ -1,4 +1,4 @@
-// The lines of document 01's program `slots`, as text in lent bytes. Each function answers the place after what it put.
+// The lines of the program `slots` (docs/RULES.md), as text in lent bytes. Each function answers the place after what it put.
 pub mod text;
 
 use crate::text::put_number;

@@ -1,5 +1,5 @@
 -- One frame, from its bytes and what the frames before it left (11172-3, 2.4.1.1 to 2.4.1.7): header, side information, main data, slots.
--- The first fault decides, in document 01's order.
+-- The first fault decides, in the order of docs/REFUSALS.md.
 use mathlib.Core.Path.{_≡_}
 use mathlib.Core.Bool.{Bool, _||_}
 use mathlib.Core.List.{List, [], map}

@@ -1,4 +1,4 @@
--- The refusals' numbers in document 01, which only text and exported calls give, and how a verdict and a value answer a reading.
+-- The refusals' numbers (docs/REFUSALS.md), which only text and exported calls give, and how a verdict and a value answer a reading.
 use Prim.Native.Nat.{ℕ}
 use Rattle.standard.specs.Told.{Told, refused, told, toldOr, verdictOf}
 use mathlib.Core.Path.{_≡_}
@@ -9,7 +9,7 @@ use Rattle.standard.specs.declared.Verdict.{Verdict}
 use Rattle.standard.specs.declared.HeaderAnswer.{HeaderAnswer}
 use Rattle.standard.specs.declared.HeaderAnswer.the-variants.{Header, NoHeader}
 
--- document 01, "Refusals by number"
+-- docs/REFUSALS.md
 abbrev pub numberOf : Refusal → ℕ
 numberOf UnfitMemory = 1
 numberOf MadeUpRecord = 14

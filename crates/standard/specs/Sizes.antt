@@ -13,6 +13,6 @@ perFrame = 2304
 abbrev pub mostBigValues : ℕ
 mostBigValues = 288
 
--- the bytes lent for a reservoir, at least, and what it may be said to hold, at most (document 01, refusal 1)
+-- the bytes lent for a reservoir, at least, and what it may be said to hold, at most (docs/REFUSALS.md, 1)
 abbrev pub reservoirBytes : ℕ
 reservoirBytes = 4096

@@ -1,4 +1,4 @@
--- Document 01, "Worked from bytes": the starred rows in one table with a single statement, and the others, computed from the definition.
+-- Worked from bytes (docs/RULES.md, Frame F): the starred rows in one table with a single statement, and the others, computed from the definition.
 use mathlib.Core.Path.{_≡_, refl}
 use mathlib.Core.List.{List, [], _∷_, _++_}
 use Prim.Native.Nat.{ℕ, _*_}
