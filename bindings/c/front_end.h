@@ -16,6 +16,11 @@
 #include <stddef.h>
 #include <stdint.h>
 
+/* The archive is for x86-64. Who only wants the declarations, as for a check on another machine, says so. */
+#if !defined(__x86_64__) && !defined(_M_X64) && !defined(FRONT_END_DECLARATIONS)
+#error "libfront_end.a is for x86-64: compile for that machine, or define FRONT_END_DECLARATIONS for the declarations alone"
+#endif
+
 #ifdef __cplusplus
 extern "C" {
 #endif
@@ -27,6 +32,7 @@ extern "C" {
 #define FRONT_END_NUMBERS 2304   /* numbers of a frame's slots: FRONT_END_SLOTS x FRONT_END_SLOT */
 #define FRONT_END_ROW 63         /* numbers in a slot's row (front_end_slot) */
 #define FRONT_END_ROWS 252       /* numbers in the rows of a frame: FRONT_END_SLOTS x FRONT_END_ROW */
+#define FRONT_END_STACK 16384    /* bytes of stack that a call needs, at most; measured are 10,784 (bindings/c/stack.c) */
 #define FRONT_END_FRAME 1441     /* bytes of the longest frame: so many, if the card has them, are always enough */
 
 /* ---- answers: 0 where a call is accepted, else one of these */
