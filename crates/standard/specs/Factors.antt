@@ -74,12 +74,12 @@ factorsFrom (shared ∷ ps) old b = getD old 0 0 ∷ factorsFrom ps (drop 1 old)
 factorsFrom (coded w ∷ ps) old b = value (take w b) ∷ factorsFrom ps (drop 1 old) (drop w b)
 
 -- ---- 22 long factors and 39 short ones, three to a band; what isn't read is 0
--- how many are long: they are read first
+-- how many are long, in either version: they are read first
 abbrev pub longCount : Bool → Shape → ℕ
 longCount mpeg1 AllLong = 21
 longCount mpeg1 AllShort = 0
 
--- how many are short, and the place of the first of them: bands 0 to 11, or 3 to 11
+-- how many are short, and the place of the first of them: bands 0 to 11
 abbrev pub shortCount : Shape → ℕ
 shortCount AllLong = 0
 shortCount AllShort = 36
