@@ -37,6 +37,7 @@ use standard::FRAME_NUMBERS;
 use standard::FrameAnswer;
 use standard::FrameHeader;
 use standard::HeaderAnswer;
+use standard::RESERVOIR_BYTES;
 use standard::Reservoir;
 use standard::SampleRate;
 use standard::SideInfo;
@@ -267,7 +268,7 @@ fn put_answer(out: &mut [u8], what: &[u8], verdict: Verdict, rest: &[u8]) -> usi
 
 // s
 fn run_slots(text: &[u8], last: &[u8], numbers: &mut [i32], out: &mut [u8], state: State) {
-    let mut main = [0u8; 4096];
+    let mut main = [0u8; RESERVOIR_BYTES];
     let c = bytes_of(text, &mut main);
     let h = header_of(last, state);
     let i = side_of(last, state);
@@ -424,7 +425,7 @@ fn walk(text: &[u8], last: &mut [u8], bytes: &mut [u8], numbers: &mut [i32], out
     let mut state = State {
         frame: 0,
         stated: 0,
-        bytes: 4096,
+        bytes: RESERVOIR_BYTES,
         numbers: FRAME_NUMBERS,
         slot: 0,
         big_values: 0,

@@ -27,7 +27,7 @@ use Rattle.standard.specs.Frame.{Step, noStep, frameCall, FrameRead}
 use Rattle.standard.specs.Header.{headerOf, granules, channelCount}
 use Rattle.standard.specs.SideInfo.{sideOf}
 use Rattle.standard.specs.Reorder.{reorderOf}
-use Rattle.main_data.specs.Slot.{pastRecord}
+use Rattle.standard.specs.Record.{pastRecord}
 use Rattle.main_data.proofs.Turns.{four-at-most}
 use Rattle.front_end.specs.Calls.{numberTold, saidNumber, saidCount, slotRow, rowsFrom, rowsAfter, following, under, reorderBy, reorderStep, ReorderDone, slotsStep, SlotsDone, frameStep, frameTold, FrameDone}
 

@@ -19,7 +19,7 @@ use Rattle.standard.specs.Slots.{Outcome, slotsTold, numbersFrom, readSlots}
 use Rattle.standard.specs.Reservoir.{reservoirAfter, bytesAfter}
 use Rattle.standard.specs.Frame.{Step, noStep, frameCall}
 use Rattle.standard.specs.Reorder.{reorderOf}
-use Rattle.main_data.specs.Slot.{pastRecord}
+use Rattle.standard.specs.Record.{pastRecord}
 use Rattle.standard.specs.declared.FrameHeader.{FrameHeader}
 use Rattle.standard.specs.declared.SideInfo.{SideInfo}
 use Rattle.standard.specs.declared.Refusal.the-variants.{UnfitMemory, MadeUpRecord}

@@ -72,7 +72,7 @@ fn regions_of(rate: SampleRate, r: SlotRecord) -> Regions
         Shape::AllLong => long_regions(rate, r),
         Shape::AllShort => Regions::Split {
             first: 36,
-            second: 576,
+            second: SLOT_NUMBERS as u16,
         },
     }
 }

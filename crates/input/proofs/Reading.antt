@@ -3,7 +3,7 @@ use mathlib.Core.Path.{_≡_, refl, sym, ap, _∙_, subst}
 use mathlib.Core.List.{List}
 use Prim.Native.Nat.{ℕ, _+_, _-_, _≤_, _<_}
 use native.Mathlib.Omega.{arith}
-use borrow.Rule.Slice.PartMut.{midOf, putMid, take-put, same-len-mid}
+use borrow.Rule.Slice.PartMut.{midOf, putMid, take-put, same-len-mid, mid-len}
 use lib.ListN.{length, take, drop, length-append}
 use lib.Seq.{take-take, take-append-seam}
 use Rattle.input.specs.declared.Held.{Held}
@@ -47,6 +47,13 @@ module _ {old left : List ℕ} {n end : ℕ} (r : Reading old left n end) where
         ∙ take-take n end left (r .more)
         ∙ r .kept;
   }
+
+  -- a read behind what is filled that got bytes got some, and no more than there is room for
+  pub got-on : {k : ℕ} {g : Got} → g ≡ Bytes k → GotIn (length (midOf end (length left - end) left)) g → (0 < k) × (end + k ≤ length old)
+  got-on e h =
+      let some = got-some e h in
+      let room = mid-len end (length left) left (omega arith) in
+      (some .0, omega (arith, some .1, room, r .within, r .long))
 
   pub onward : (k : ℕ) → end + k ≤ length old → Reading old left n (end + k)
   onward k h = record { more = omega (arith, r .more); within = h; long = r .long; kept = r .kept }

@@ -8,10 +8,8 @@ use lib.ListN.{getD}
 use lib.Dec.{ltb}
 use Rattle.standard.specs.Told.{pick}
 use Rattle.standard.specs.Slots.{Outcome, alone, slotTold, numbersAfter}
-use Rattle.standard.specs.declared.SlotRecord.{SlotRecord}
 use Rattle.standard.specs.declared.SlotAnswer.{SlotAnswer}
 use Rattle.standard.specs.declared.SlotOutcome.the-variants.{Read, NotRead, Lacking}
-use Rattle.standard.specs.declared.BlockType.the-variants.{Long}
 use Rattle.standard.specs.declared.SlotOutcome.{SlotOutcome}
 
 -- a slot's answer, and its own numbers after it
@@ -36,21 +34,3 @@ mateIn channels answers k = pick (ltb k channels) (slotTold alone) (getD answers
 pub record Mated (channels : ℕ) (answers : List SlotAnswer) (k : ℕ) (lost : Bool) (old : List ℕ) : Type 0 where
   pub lost-is : lost ≡ saidRefused (mateIn channels answers k .outcome)
   pub old-is : old ≡ mateIn channels answers k .long
-
--- what stands past the end of a list of records
-abbrev pub pastRecord : SlotRecord
-pastRecord =
-    record {
-      «part2_3_length» = 0;
-      «big_values» = 0;
-      «global_gain» = 0;
-      «scalefac_compress» = 0;
-      «block_type» = Long;
-      «subblock_gain» = [];
-      «table_select» = [];
-      «region0_count» = 0;
-      «region1_count» = 0;
-      preflag = false;
-      «scalefac_scale» = false;
-      «count1table_select» = false;
-    }

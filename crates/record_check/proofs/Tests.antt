@@ -125,24 +125,6 @@ pub slots-are : (m : Bool) (n : ℕ) (s : List SlotRecord) → length s ≡ 4 �
 unfolding areSlots
 slots-are m n s e = rw (sub-zero, eq-eqb (length s) 4 e)
 
--- what an array of slots is taken to have past its end
-abbrev pub pastSlot : SlotRecord
-pastSlot =
-    record {
-      «part2_3_length» = 0;
-      «big_values» = 0;
-      «global_gain» = 0;
-      «scalefac_compress» = 0;
-      «block_type» = Long;
-      «subblock_gain» = [];
-      «table_select» = [];
-      «region0_count» = 0;
-      «region1_count» = 0;
-      preflag = false;
-      «scalefac_scale» = false;
-      «count1table_select» = false;
-    }
-
 -- ---- the whole
 pub side-is : (mpeg1 two : Bool) (i : SideInfo) {l : Layout} {a b : Bool} → l ≡ layoutOf mpeg1 two → l .«main_data_begin» < 16
     → a ≡ areShares (l .shares) (i .scfsi) → b ≡ areSlots mpeg1 (l .slots) (i .slots)

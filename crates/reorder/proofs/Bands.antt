@@ -47,6 +47,10 @@ ordered-begin rate first old d l h e = record {
   kept = refl;
 }
 
+-- a band's start and end, for one of three windows
+pub within : (rate : SampleRate) (k : ℕ) {b c : ℕ} → b ≡ shortStart rate k → c ≡ shortStart rate (k + 1) → (b ≤ c) × (c ≤ 192)
+within rate k p q = (omega (arith, p, q, short-rises rate k), omega (arith, q, short-tops rate (k + 1)))
+
 module _ (rate : SampleRate) (first : ℕ) (old d₀ d : List ℤ) (k : ℕ) (r : Ordered rate first old d₀ d k) where
   pub ordered-turn : (b c : ℕ) (left : List ℤ) → b ≡ shortStart rate k → c ≡ shortStart rate (k + 1) → k < 13
       → left ≡ paste d (3 * b) (bandNumbers (3 * b) (c - b) old) (3 * (c - b)) → Ordered rate first old d₀ left (k + 1)

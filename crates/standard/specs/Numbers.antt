@@ -120,7 +120,7 @@ unfoldable pub regionsBy : Shape → SampleRate → SlotRecord → Regions
 regionsBy AllLong rate r =
     pick (isLong (r .«block_type») && ltb 20 (r .«region0_count» + r .«region1_count»)) NoRegions
     (Split (longStart rate (r .«region0_count» + 1)) (longStart rate (r .«region0_count» + r .«region1_count» + 2)))
-regionsBy AllShort rate r = Split 36 576
+regionsBy AllShort rate r = Split 36 perSlot
 
 abbrev pub regionsOf : SampleRate → SlotRecord → Regions
 regionsOf rate r = regionsBy (shapeOf r) rate r

@@ -227,3 +227,21 @@ isHead mpeg1 r =
 
 unfoldable pub isRecord : Bool → SlotRecord → Bool
 isRecord mpeg1 r = isHead mpeg1 r && pick (isLong (r .«block_type»)) (isLongBody r) (isSwitchedBody r)
+
+-- what stands past the end of a list of records
+abbrev pub pastRecord : SlotRecord
+pastRecord =
+    record {
+      «part2_3_length» = 0;
+      «big_values» = 0;
+      «global_gain» = 0;
+      «scalefac_compress» = 0;
+      «block_type» = Long;
+      «subblock_gain» = [];
+      «table_select» = [];
+      «region0_count» = 0;
+      «region1_count» = 0;
+      preflag = false;
+      «scalefac_scale» = false;
+      «count1table_select» = false;
+    }

@@ -19,6 +19,9 @@ long-regions-requires c κs = search needs
 enum-told-2 : tie.Need-enum-told-2
 enum-told-2 c = search needs
 
+cast-t6 : tie.Need-cast-t6
+cast-t6 c = search needs
+
 returns : tie.Need-returns
 returns c =
     let a = c .before .before .before .before .args in
@@ -34,4 +37,4 @@ returns-2 c =
 pub regions-of-spec : {M : Type 1} → statement M
 regions-of-spec =
     tie.close
-    (tie.spec shape-of-requires enum-told long-regions-requires enum-told-2 returns returns-2)
+    (tie.spec shape-of-requires enum-told long-regions-requires enum-told-2 cast-t6 returns returns-2)

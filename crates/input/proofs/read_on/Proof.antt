@@ -3,9 +3,8 @@
 use Prim.Native.Nat.{_-_}
 use native.Mathlib.Omega.{arith}
 use borrow.Author.Needs.{needs}
-use borrow.Rule.Slice.PartMut.{mid-len}
 use lib.ListN.{length}
-use Rattle.input.proofs.Reading.{Reading, begin, behind, onward, got-some, not-failed, not-ended, told-so}
+use Rattle.input.proofs.Reading.{Reading, begin, behind, onward, got-on, not-failed, not-ended, told-so}
 use Rattle.input.proofs.read_on.Statement.{statement}
 use Rattle.input.proofs.read_on.Tie as tie
 use Rattle.input.proofs.read_on.Reads as reads
@@ -73,47 +72,20 @@ enum-known-more c = search needs
 
 add-end : tie.Need-add-end Inv-loop μ-loop
 add-end c =
-    omega (
-      arith,
-      got-some (c .before .more .given .1) (c .before .before .before .before .before .read-once .ensures),
-      mid-len
-          (c .before .before .before .before .before .before .before .before .loop .end)
-          (length (c .before .before .before .before .before .before .before .before .loop .bytes))
-          (c .before .before .before .before .before .before .before .before .loop .bytes)
-          (omega arith),
-      c .before .before .before .before .before .before .before .before .loop .inv .within,
-      c .before .before .before .before .before .before .before .before .loop .inv .long,
-    )
+    let o = c .before .before .before .before .before in
+    omega (arith, got-on (o .before .before .before .loop .inv) (c .before .more .given .1) (o .read-once .ensures))
 
 loop-less : tie.Need-loop-less Inv-loop μ-loop
 loop-less c =
-    omega (
-      arith,
-      got-some (c .before .more .given .1) (c .before .before .before .before .before .read-once .ensures),
-      mid-len
-          (c .before .before .before .before .before .before .before .before .loop .end)
-          (length (c .before .before .before .before .before .before .before .before .loop .bytes))
-          (c .before .before .before .before .before .before .before .before .loop .bytes)
-          (omega arith),
-      c .before .before .before .before .before .before .before .before .loop .inv .within,
-      c .before .before .before .before .before .before .before .before .loop .inv .long,
-    )
+    let o = c .before .before .before .before .before in
+    omega (arith, got-on (o .before .before .before .loop .inv) (c .before .more .given .1) (o .read-once .ensures))
 
 loop-again : tie.Need-loop-again Inv-loop μ-loop
 loop-again c =
-    onward (behind (c .before .before .before .before .before .before .before .before .loop .inv)
-    (c .before .before .before .before .before .read-once .last .1 .0) (c .before .before .before .before .before .read-once .kept .1 .0)) _
-    (omega (
-      arith,
-      got-some (c .before .more .given .1) (c .before .before .before .before .before .read-once .ensures),
-      mid-len
-          (c .before .before .before .before .before .before .before .before .loop .end)
-          (length (c .before .before .before .before .before .before .before .before .loop .bytes))
-          (c .before .before .before .before .before .before .before .before .loop .bytes)
-          (omega arith),
-      c .before .before .before .before .before .before .before .before .loop .inv .within,
-      c .before .before .before .before .before .before .before .before .loop .inv .long,
-    ))
+    let o = c .before .before .before .before .before in
+    let inv = o .before .before .before .loop .inv in
+    onward (behind inv (o .read-once .last .1 .0) (o .read-once .kept .1 .0)) _
+    (got-on inv (c .before .more .given .1) (o .read-once .ensures) .1)
 
 up-to-requires-3 : tie.Need-up-to-requires-3 Inv-loop μ-loop
 up-to-requires-3 c κs = search needs

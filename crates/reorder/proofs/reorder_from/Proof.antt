@@ -8,8 +8,8 @@ use lib.IntN.{ℤ}
 use lib.ListN.{length, drop}
 use lib.Seq.{length-take-le}
 use Rattle.standard.specs.Reorder.{orderOf, gathered}
-use Rattle.standard.specs.ReorderLaws.{short-rises, short-tops}
-use Rattle.reorder.proofs.Bands.{Ordered, ordered-begin, ordered-turn, ordered-end}
+use Rattle.standard.specs.ReorderLaws.{short-tops}
+use Rattle.reorder.proofs.Bands.{Ordered, ordered-begin, ordered-turn, ordered-end, within}
 use Rattle.reorder.proofs.reorder_from.Statement.{statement}
 use Rattle.reorder.proofs.reorder_from.Tie as tie
 use Rattle.reorder.proofs.reorder_from.Reads as reads
@@ -50,45 +50,16 @@ slice-aggregate-reorder-band : tie.Need-slice-aggregate-reorder-band Inv-loop μ
 slice-aggregate-reorder-band c = sym (c .before .before .before .before .loop .inv .old-long)
 
 mul-reorder-band : tie.Need-mul-reorder-band Inv-loop μ-loop
-mul-reorder-band c =
-    omega (
-      arith,
-      c .before .before .before .short-start .ensures,
-      c .before .before .short-start2 .ensures,
-      short-rises
-          (c .before .before .before .before .before .before .before .before .args .rate) (c .before .before .before .before .before .loop .k),
-      short-tops
-          (c .before .before .before .before .before .before .before .before .args .rate) (c .before .before .before .before .before .loop .k + 1),
-    )
+mul-reorder-band c = omega (arith, within _ _ (c .before .before .before .short-start .ensures) (c .before .before .short-start2 .ensures))
 
 sub-reorder-band : tie.Need-sub-reorder-band Inv-loop μ-loop
-sub-reorder-band c =
-    omega (
-      arith,
-      c .before .before .before .short-start .ensures,
-      c .before .before .short-start2 .ensures,
-      short-rises
-          (c .before .before .before .before .before .before .before .before .args .rate) (c .before .before .before .before .before .loop .k),
-      short-tops
-          (c .before .before .before .before .before .before .before .before .args .rate) (c .before .before .before .before .before .loop .k + 1),
-    )
+sub-reorder-band c = omega (arith, within _ _ (c .before .before .before .short-start .ensures) (c .before .before .short-start2 .ensures))
 
 reorder-band-requires : tie.Need-reorder-band-requires Inv-loop μ-loop
 reorder-band-requires c κs =
-    let o = c .before .before .before .before .before .loop .inv in (
-      omega (
-        arith,
-        c .before .before .before .short-start .ensures,
-        c .before .before .short-start2 .ensures,
-        short-rises
-            (c .before .before .before .before .before .before .before .before .args .rate) (c .before .before .before .before .before .loop .k),
-        short-tops
-            (c .before .before .before .before .before .before .before .before .args .rate) (c .before .before .before .before .before .loop .k + 1),
-      ),
-      omega
-          (arith, o .long, o .room),
-      omega (arith, o .old-long),
-    )
+    let o = c .before .before .before .before .before .loop .inv in
+    let w = within _ _ (c .before .before .before .short-start .ensures) (c .before .before .short-start2 .ensures) in
+    (omega (arith, w), omega (arith, o .long, o .room), omega (arith, o .old-long))
 
 add-k : tie.Need-add-k Inv-loop μ-loop
 add-k c = omega arith

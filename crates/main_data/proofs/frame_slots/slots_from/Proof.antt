@@ -8,7 +8,7 @@ use denote.Ref.{now}
 use lib.ListN.{length}
 use Rattle.standard.specs.Header.{granules, channelCount}
 use Rattle.standard.specs.SideLaws.{four-slots}
-use Rattle.main_data.specs.Slot.{pastRecord}
+use Rattle.standard.specs.Record.{pastRecord}
 use Rattle.main_data.proofs.Turns.{Turning, turning-begin, turning-part, turning-end, record-at, part-long, four-at-most, some-channels}
 use Rattle.main_data.proofs.frame_slots.slots_from.Statement.{statement}
 use Rattle.main_data.proofs.frame_slots.slots_from.Tie as tie

@@ -6,7 +6,8 @@ use native.Mathlib.Omega.{arith}
 use borrow.Author.Needs.{needs}
 use borrow.Author.Tests.{not-true, not-false}
 use lib.ListN.{length}
-use Rattle.record_check.proofs.Tests.{All, all-begin, all-turn, all-stop, all-end, slotsFrom, slotTest, slots-step, slots-none, slots-are, pastSlot}
+use Rattle.standard.specs.Record.{pastRecord}
+use Rattle.record_check.proofs.Tests.{All, all-begin, all-turn, all-stop, all-end, slotsFrom, slotTest, slots-step, slots-none, slots-are}
 use Rattle.record_check.proofs.checks.slots_fit.Statement.{statement}
 use Rattle.record_check.proofs.checks.slots_fit.Tie as tie
 
@@ -34,7 +35,7 @@ returns c =
     let a = d .before .args in
     let l : length (a .t3) ≡ 4 = search needs in
     let h : d .loop .i < length (a .t3) = omega arith in
-    sym (all-stop (slotsFrom (a .mpeg1) (a .n)) (slotTest (a .mpeg1) (a .n)) (slots-step (a .mpeg1) (a .n)) pastSlot (d .loop .inv) h
+    sym (all-stop (slotsFrom (a .mpeg1) (a .n)) (slotTest (a .mpeg1) (a .n)) (slots-step (a .mpeg1) (a .n)) pastRecord (d .loop .inv) h
     (sym (c .before .slot-fits .ensures) ∙ not-true _ (c .if1 .taken))) ∙ slots-are (a .mpeg1) (a .n) (a .t3) l
 
 add-i : tie.Need-add-i Inv-loop μ-loop
@@ -49,7 +50,7 @@ loop-again c =
     let a = d .before .args in
     let l : length (a .t3) ≡ 4 = search needs in
     let h : d .loop .i < length (a .t3) = omega arith in
-    all-turn (slotsFrom (a .mpeg1) (a .n)) (slotTest (a .mpeg1) (a .n)) (slots-step (a .mpeg1) (a .n)) pastSlot (d .loop .inv) h
+    all-turn (slotsFrom (a .mpeg1) (a .n)) (slotTest (a .mpeg1) (a .n)) (slots-step (a .mpeg1) (a .n)) pastRecord (d .loop .inv) h
     (sym (c .before .slot-fits .ensures) ∙ not-false _ (c .if1 .left))
 
 returns-2 : tie.Need-returns-2 Inv-loop μ-loop
@@ -59,7 +60,7 @@ returns-2 c =
     let l : length (a .t3) ≡ 4 = search needs in
     let h : length (a .t3) ≤ d .loop .i = omega arith in
     let k : a .n ≤ length (a .t3) = omega arith in
-    sym (all-end (slotsFrom (a .mpeg1) (a .n)) (slotTest (a .mpeg1) (a .n)) (slots-step (a .mpeg1) (a .n)) pastSlot (d .loop .inv) h
+    sym (all-end (slotsFrom (a .mpeg1) (a .n)) (slotTest (a .mpeg1) (a .n)) (slots-step (a .mpeg1) (a .n)) pastRecord (d .loop .inv) h
     (slots-none (a .mpeg1) (a .n) (length (a .t3)) k)) ∙ slots-are (a .mpeg1) (a .n) (a .t3) l
 
 pub slots-fit-spec : {M : Type 1} → statement M
