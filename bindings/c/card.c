@@ -47,7 +47,8 @@ static const char *name_of(unsigned refusal) {
     }
 }
 
-/* A slot's line; the numbers of a short block are reordered first. */
+/* A slot's line; the numbers of a short block are reordered first. Its block type says what an index means: of a short block, after the
+   reorder, three windows stand side by side. */
 static void print_slot(const uint8_t *frame, size_t n, size_t slot) {
     const front_end_slot *told = &slots[slot];
     int32_t *own = numbers + slot * FRONT_END_SLOT;
@@ -58,7 +59,7 @@ static void print_slot(const uint8_t *frame, size_t n, size_t slot) {
         return;
     }
     front_end_reorder(frame, n, slot, own, FRONT_END_SLOT);
-    printf("count %u:", told->count);
+    printf("block %u gain %u count %u:", told->block_type, told->global_gain, told->count);
     for (int i = 0; i < FRONT_END_SLOT; i++) {
         if (own[i]) printf(" %d:%ld", i, (long)own[i]);
     }
@@ -69,8 +70,11 @@ static void print_slots(const uint8_t *frame, size_t n) {
     for (size_t slot = 0; slot < FRONT_END_SLOTS; slot++) print_slot(frame, n, slot);
 }
 
+static void print_reach(size_t back, size_t held) { printf("it reaches back %zu bytes, and %zu are held\n", back, held); }
+
 /* What a frame that the card cuts off still holds: its main data begins main_data_begin bytes back, among the `kept` bytes of the
-   reservoir. Where those are not there, its slots are not known. */
+   reservoir. Where those are not there, its slots are not known. Such a frame is refused by 2, which tells nothing of it, so that
+   main_data_begin is taken from its bytes. */
 static void print_cut(const uint8_t *frame, size_t n, size_t kept) {
     static uint8_t main_data[FRONT_END_RESERVOIR];
     front_end_frame_sizes sizes = front_end_sizes(frame, n);
@@ -79,7 +83,7 @@ static void print_cut(const uint8_t *frame, size_t n, size_t kept) {
     size_t back = front_end_main_data_begin(frame, &sizes), own = n - before;
     if (own > sizes.main) own = sizes.main;
     if (back > kept) {
-        printf("it reaches back %zu bytes, and %zu are held\n", back, kept);
+        print_reach(back, kept);
         return;
     }
     memcpy(main_data, reservoir + kept - back, back);
@@ -107,7 +111,8 @@ int main(void) {
             printf("frame %zu at byte %zu length %zu", ++frames, place, told.length);
             if (told.refusal) printf(" refused %u: %s", told.refusal, name_of(told.refusal));
             putchar('\n');
-            if (!told.refusal) print_slots(frame, n);
+            if (told.refusal) print_reach(told.main_data_begin, kept);
+            else print_slots(frame, n);
         } else {
             if (!lost) {
                 printf("byte %zu refused %u: %s\n", place, told.refusal, name_of(told.refusal));

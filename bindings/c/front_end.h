@@ -30,9 +30,9 @@ extern "C" {
 #define FRONT_END_SLOTS 4        /* slots of a frame, at most */
 #define FRONT_END_SLOT 576       /* numbers of a slot */
 #define FRONT_END_NUMBERS 2304   /* numbers of a frame's slots: FRONT_END_SLOTS x FRONT_END_SLOT */
-#define FRONT_END_ROW 63         /* numbers in a slot's row (front_end_slot) */
-#define FRONT_END_ROWS 252       /* numbers in the rows of a frame: FRONT_END_SLOTS x FRONT_END_ROW */
-#define FRONT_END_STACK 16384    /* bytes of stack that a call needs, at most; measured are 10,784 (bindings/c/stack.c) */
+#define FRONT_END_ROW 70         /* numbers in a slot's row (front_end_slot) */
+#define FRONT_END_ROWS (FRONT_END_SLOTS * FRONT_END_ROW) /* numbers in the rows of a frame */
+#define FRONT_END_STACK 16384    /* bytes of stack that a call needs, at most; measured are 11,088 (bindings/c/stack.c) */
 #define FRONT_END_FRAME 1441     /* bytes of the longest frame: so many, if the card has them, are always enough */
 
 /* ---- answers: 0 where a call is accepted, else one of these */
@@ -56,7 +56,7 @@ enum {
     FRONT_END_FORBIDDEN_BLOCK = 11,   /* window switching with block type 0 */
     FRONT_END_MIXED_BLOCK = 12,       /* window switching with the mixed flag */
     FRONT_END_SHORT_RESERVOIR = 13,   /* main_data_begin reaches further back than the reservoir. The frame's main data was added to
-                                         the reservoir for the frames after it, and the frame's length is told */
+                                         the reservoir for the frames after it, and its length and main_data_begin are told */
 
     /* a slot is refused (in its row): its 576 numbers have not changed */
     FRONT_END_MISSING_BITS = 20,   /* its bits end beyond the main data */
@@ -70,20 +70,30 @@ enum {
     FRONT_END_LACKING = 255
 };
 
-/* What is told of a slot, its row: FRONT_END_ROW numbers of 16 bits. Of a slot that was refused or that the frame lacks, all but
-   `refusal` is 0. */
+/* What is told of a slot, its row: FRONT_END_ROW numbers of 16 bits. Of a slot that was refused, count and factors are 0, and from
+   block_type on stands what its record says of the numbers that are lost. Of a slot that the frame lacks, all but `refusal` is 0. A later
+   row may have more at its end; FRONT_END_ROW says how long it is. */
 typedef struct {
     uint16_t refusal;          /* 0, or 20 to 25, or FRONT_END_LACKING */
     uint16_t count;            /* numbers up to the last that was coded, 0 to 576; those after it are 0 */
     uint16_t long_factors[22]; /* scale factors of a long block */
     uint16_t short_factors[13][3]; /* of a short block: for each band, three windows */
+    uint16_t block_type;       /* 0 long, 1 start, 2 short, 3 end: without it an index is no frequency */
+    uint16_t global_gain;      /* 0 to 255 */
+    uint16_t subblock_gain[3]; /* 0 to 7, a window each; 0 where the block is not switched */
+    uint16_t scalefac_scale;   /* 0 or 1 */
+    uint16_t preflag;          /* 0 or 1; in MPEG-2 and MPEG-2.5 scalefac_compress says it */
 } front_end_slot;
+
+/* The struct has the row's numbers and no others: else this does not compile. */
+typedef char front_end_slot_is_a_row[sizeof(front_end_slot) == FRONT_END_ROW * sizeof(uint16_t) ? 1 : -1];
 
 /* What a frame answers. */
 typedef struct {
-    uint8_t refusal;  /* 0, 1, or 2 to 13 */
-    size_t length;    /* bytes of the frame, after 0 and 13; else 0 */
-    size_t reservoir; /* the reservoir's length now: hand it in with the next frame, or front_end_emptied() after a gap */
+    uint8_t refusal;        /* 0, 1, or 2 to 13 */
+    size_t length;          /* bytes of the frame, after 0 and 13; else 0 */
+    size_t main_data_begin; /* how many bytes before its own its main data begins, 0 to 511, after 0 and 13; else 0 */
+    size_t reservoir;       /* the reservoir's length now: hand it in with the next frame, or front_end_emptied() after a gap */
 } front_end_frame_told;
 
 /* What a header says of its frame. Of a refused one, all but `refusal` is 0. */
@@ -113,8 +123,8 @@ front_end_frame_told front_end_frame(const uint8_t *frame, size_t frame_length, 
                                      size_t reservoir_length, int32_t *numbers, size_t numbers_length, front_end_slot *slots,
                                      size_t rows_length);
 
-/* How many bytes before its own main data the main data of a frame begins (main_data_begin), 0 to 511: of a frame whose sizes
-   front_end_sizes told, and of which at least two bytes of side information are there. */
+/* main_data_begin of a frame that is cut off, of which front_end_frame tells nothing: of a frame whose sizes front_end_sizes told, and of
+   which at least two bytes of side information are there. */
 static inline size_t front_end_main_data_begin(const uint8_t *frame, const front_end_frame_sizes *sizes) {
     const uint8_t *side = frame + sizes->header;
     return sizes->granules == 2 ? (size_t)side[0] << 1 | side[1] >> 7 : side[0];

@@ -25,7 +25,8 @@ static void lend(void) {
 }
 
 static void print_slot(const front_end_slot *slot) {
-    printf(" %u %u", slot->refusal, slot->count);
+    printf(" %u %u %u %u %u %u %u %u %u", slot->refusal, slot->count, slot->block_type, slot->global_gain, slot->subblock_gain[0],
+           slot->subblock_gain[1], slot->subblock_gain[2], slot->scalefac_scale, slot->preflag);
     for (int i = 0; i < slot->count; i++) printf(" %ld", (long)numbers[i]);
 }
 
@@ -35,7 +36,7 @@ static void frame_call(void) {
     lend();
     front_end_frame_told told = front_end_frame(frame, n, reservoir, sizeof reservoir, kept, numbers, FRONT_END_NUMBERS, slots, FRONT_END_ROWS);
     kept = told.reservoir;
-    printf(" %u %zu %zu", told.refusal, told.length, told.reservoir);
+    printf(" %u %zu %zu %zu", told.refusal, told.length, told.main_data_begin, told.reservoir);
     if (!told.refusal) print_slot(slots);
 }
 
@@ -81,7 +82,7 @@ static void lent_call(void) {
     memcpy(slots_before, slots, sizeof slots);
     front_end_frame_told told = front_end_frame(frame, n, bytes, size[0], size[1], numbers, size[2], slots, size[3]);
     int same = !memcmp(bytes_before, bytes, sizeof bytes) && !memcmp(numbers_before, numbers, sizeof numbers) && !memcmp(slots_before, slots, sizeof slots);
-    printf(" %u %zu %zu %s", told.refusal, told.length, told.reservoir, same ? "same" : "changed");
+    printf(" %u %zu %zu %zu %s", told.refusal, told.length, told.main_data_begin, told.reservoir, same ? "same" : "changed");
 }
 
 int main(void) {

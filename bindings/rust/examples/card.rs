@@ -2,17 +2,17 @@
 use front_end::{reorder, Reader, Slot, Step, NUMBERS, SLOT};
 use std::io::Read;
 
-fn print_slots(frame: &[u8], slots: &[Slot], numbers: &mut [i32]) {
+fn print_slots(frame: &[u8], slots: &[Slot], numbers: &mut [i32; NUMBERS]) {
     for (n, slot) in slots.iter().enumerate() {
         match slot {
             Slot::Read(read) => {
-                let own = &mut numbers[SLOT * n..][..SLOT];
-                reorder(frame, n, own).expect("the frame was read, and has this slot");
-                let coded = own.iter().enumerate().filter(|(_, v)| **v != 0);
+                reorder(frame, n, numbers).expect("the frame was read, and has this slot");
+                let coded = numbers[SLOT * n..SLOT * (n + 1)].iter().enumerate().filter(|(_, v)| **v != 0);
                 let told: String = coded.map(|(i, v)| format!(" {}:{}", i, v)).collect();
-                println!("  slot {} count {}:{}", n, read.count, told);
+                let scale = read.scale;
+                println!("  slot {} block {} gain {} count {}:{}", n, scale.block_type as u8, scale.global_gain, read.count, told);
             }
-            Slot::Refused(why) => println!("  slot {} refused {}: {:?}", n, why.number(), why),
+            Slot::Refused { refusal, .. } => println!("  slot {} refused {}: {}", n, refusal.number(), refusal),
             Slot::Lacking => {}
         }
     }
@@ -31,9 +31,9 @@ fn main() -> std::io::Result<()> {
                 println!("frame {} at byte {} length {}", frames, at, frame.length);
                 print_slots(&card[at..], &frame.slots, &mut numbers);
             }
-            Step::Short { at, length } => {
+            Step::Short { at, length, main_data_begin } => {
                 frames += 1;
-                println!("frame {} at byte {} length {} refused 13", frames, at, length);
+                println!("frame {} at byte {} length {} refused 13: it reaches back {} bytes", frames, at, length, main_data_begin);
             }
             Step::Gap { from, to, why } => {
                 println!("byte {} refused {}: {:?}", from, why.number(), why);

@@ -5,6 +5,7 @@
 pub struct FrameTold {
     pub refusal: u8,
     pub length: usize,
+    pub main_data_begin: usize,
     pub reservoir: usize,
 }
 

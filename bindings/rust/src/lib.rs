@@ -5,23 +5,33 @@
 //! A [`Reader`] goes over a card, tells every frame, and empties the reservoir at every gap by itself:
 //!
 //! ```no_run
-//! let card = std::fs::read("card.mp3").unwrap();
-//! let mut numbers = [0; front_end::NUMBERS];
-//! let mut reader = front_end::Reader::new(&card);
-//! while let Some(step) = reader.next(&mut numbers) {
-//!     match step {
-//!         front_end::Step::Read { frame, .. } => {
-//!             for (n, slot) in frame.slots.iter().enumerate() {
-//!                 match slot {
-//!                     front_end::Slot::Read(read) => println!("{:?}", &numbers[front_end::SLOT * n..][..read.count]),
-//!                     front_end::Slot::Refused(why) => println!("slot {} is lost: {:?}", n, why),
-//!                     front_end::Slot::Lacking => {}
+//! use front_end::{reorder, Reader, Slot, Step, NUMBERS, SLOT};
+//!
+//! fn main() -> Result<(), Box<dyn std::error::Error>> {
+//!     let card = std::fs::read("card.mp3")?;
+//!     let mut numbers = [0; NUMBERS];
+//!     let mut reader = Reader::new(&card);
+//!     while let Some(step) = reader.next(&mut numbers) {
+//!         match step {
+//!             Step::Read { at, frame } => {
+//!                 for (n, slot) in frame.slots.iter().enumerate() {
+//!                     match slot {
+//!                         Slot::Read(read) => {
+//!                             reorder(&card[at..], n, &mut numbers)?;
+//!                             println!("slot {}: {:?} {:?}", n, read.scale, &numbers[SLOT * n..SLOT * (n + 1)]);
+//!                         }
+//!                         Slot::Refused { refusal, .. } => println!("slot {} is lost: {}", n, refusal),
+//!                         Slot::Lacking => {}
+//!                     }
 //!                 }
 //!             }
+//!             Step::Short { at, main_data_begin, .. } => {
+//!                 println!("the frame at byte {} is lost: it reaches back {} bytes over a gap", at, main_data_begin)
+//!             }
+//!             Step::Gap { from, to, why } => println!("nothing was read from byte {} to byte {}: {}", from, to, why),
 //!         }
-//!         front_end::Step::Short { at, .. } => println!("the frame at byte {} reaches back over a gap", at),
-//!         front_end::Step::Gap { from, to, why } => println!("nothing was read from byte {} to byte {}: {:?}", from, to, why),
 //!     }
+//!     Ok(())
 //! }
 //! ```
 //!
@@ -44,7 +54,11 @@ pub const NUMBERS: usize = SLOTS * SLOT;
 /// Bytes of the longest frame: so many, if the card has them, are always enough.
 pub const FRAME: usize = 1441;
 
-const ROW: usize = 63;
+// Where in a slot's row the long factors begin, 22 numbers; the short ones, 39; and what the slot's numbers are scaled by, 7.
+const LONG_AT: usize = 2;
+const SHORT_AT: usize = LONG_AT + 22;
+const SCALE_AT: usize = SHORT_AT + 39;
+const ROW: usize = SCALE_AT + 7;
 const ROWS: usize = SLOTS * ROW;
 const LACKING: u16 = 255;
 
@@ -57,14 +71,39 @@ pub struct ReadSlot {
     pub long: [u16; 22],
     /// Of a short block: for each band, three windows.
     pub short: [[u16; 3]; 13],
+    /// What its numbers are scaled by.
+    pub scale: Scale,
+}
+
+/// What a slot's numbers are scaled by, as its record has it.
+#[derive(Clone, Copy, Debug, PartialEq)]
+pub struct Scale {
+    /// Without it an index is no frequency.
+    pub block_type: BlockType,
+    /// 0 to 255.
+    pub global_gain: u16,
+    /// A window each, 0 to 7; 0 where the block is not switched.
+    pub subblock_gain: [u16; 3],
+    pub scalefac_scale: bool,
+    /// In MPEG-2 and MPEG-2.5 it is not read: scalefac_compress says it.
+    pub preflag: bool,
+}
+
+/// The windows of a slot. Of all but `Short` the n-th number is the n-th frequency; of `Short` three windows share the numbers.
+#[derive(Clone, Copy, Debug, PartialEq, Eq)]
+pub enum BlockType {
+    Long = 0,
+    Start = 1,
+    Short = 2,
+    End = 3,
 }
 
 /// What became of a slot.
 #[derive(Clone, Debug, PartialEq)]
 pub enum Slot {
     Read(ReadSlot),
-    /// Its 576 numbers have not changed.
-    Refused(Refusal),
+    /// Its 576 numbers have not changed, so the scale is not theirs: it says what the record said of those that are lost.
+    Refused { refusal: Refusal, scale: Scale },
     /// The frame has no such slot (mono, MPEG-2 or MPEG-2.5).
     Lacking,
 }
@@ -74,16 +113,20 @@ pub enum Slot {
 pub struct Frame {
     /// Bytes of the frame: the next one starts so far on.
     pub length: usize,
+    /// How many bytes before its own its main data begins, 0 to 511.
+    pub main_data_begin: usize,
     /// Granule by granule, channel by channel; the n-th slot's numbers are the 576 from 576 n on.
     pub slots: [Slot; SLOTS],
 }
 
 /// A frame that was refused. Nothing that was lent has changed; only where it reached too far back (`Refusal::ShortReservoir`) its main
-/// data was added to the reservoir, and its length is known.
+/// data was added to the reservoir, and its length and main_data_begin are known.
 #[derive(Clone, Copy, Debug, PartialEq)]
 pub struct RefusedFrame {
     pub refusal: Refusal,
     pub length: Option<usize>,
+    /// How many bytes before its own its main data begins; known where the length is.
+    pub main_data_begin: Option<usize>,
 }
 
 impl std::fmt::Display for RefusedFrame {
@@ -150,11 +193,18 @@ impl Reservoir {
         match Refusal::of(told.refusal) {
             None => Ok(Frame {
                 length: told.length,
+                main_data_begin: told.main_data_begin,
                 slots: slots_of(&rows),
+            }),
+            Some(Refusal::ShortReservoir) => Err(RefusedFrame {
+                refusal: Refusal::ShortReservoir,
+                length: Some(told.length),
+                main_data_begin: Some(told.main_data_begin),
             }),
             Some(refusal) => Err(RefusedFrame {
                 refusal,
-                length: if told.length == 0 { None } else { Some(told.length) },
+                length: None,
+                main_data_begin: None,
             }),
         }
     }
@@ -196,7 +246,7 @@ pub enum Step {
     /// A frame that was read, and where it starts.
     Read { at: usize, frame: Frame },
     /// A frame that reaches back over more bytes than are held: common after a gap. Its main data is kept for those after it.
-    Short { at: usize, length: usize },
+    Short { at: usize, length: usize, main_data_begin: usize },
     /// Bytes in which no frame could be read, and why the first could not.
     Gap { from: usize, to: usize, why: Refusal },
 }
@@ -227,9 +277,13 @@ impl<'a> Reader<'a> {
                 self.at += frame.length;
                 Some(Step::Read { at, frame })
             }
-            Err(RefusedFrame { length: Some(length), .. }) => {
+            Err(RefusedFrame {
+                length: Some(length),
+                main_data_begin: Some(main_data_begin),
+                ..
+            }) => {
                 self.at += length;
-                Some(Step::Short { at, length })
+                Some(Step::Short { at, length, main_data_begin })
             }
             Err(refused) => {
                 self.reservoir.empty();
@@ -270,10 +324,14 @@ pub fn slots(frame: &[u8], main: &[u8], numbers: &mut [i32]) -> Result<[Slot; SL
     }
 }
 
-/// The reorder of one slot's numbers, at least `SLOT` of them, by the frame's own record of the slot: those of a short block stand
-/// frequency by frequency after it; any other slot's stay. A slot that the frame lacks is refused by `Refusal::MadeUpRecord`.
-pub fn reorder(frame: &[u8], slot: usize, numbers: &mut [i32]) -> Result<(), Refusal> {
-    match Refusal::of(calls::reorder(frame, slot, numbers)) {
+/// The reorder of one slot's numbers by the frame's own record of the slot: those of a short block stand frequency by frequency after
+/// it; any other block's stay. `numbers` are the frame's, and the slot's own 576 are picked out of them here, so that no other slot's can
+/// be taken for them. A slot that the frame lacks is refused by `Refusal::MadeUpRecord`. Not for a slot that was refused: its numbers are
+/// not of this frame.
+pub fn reorder(frame: &[u8], slot: usize, numbers: &mut [i32; NUMBERS]) -> Result<(), Refusal> {
+    // a slot past the last is lacking in every frame: the call refuses it, and changes nothing
+    let from = SLOT * slot.min(SLOTS - 1);
+    match Refusal::of(calls::reorder(frame, slot, &mut numbers[from..from + SLOT])) {
         None => Ok(()),
         Some(refusal) => Err(refusal),
     }
@@ -301,22 +359,40 @@ fn slots_of(rows: &[u16; ROWS]) -> [Slot; SLOTS] {
     [slot_of(rows, 0), slot_of(rows, 1), slot_of(rows, 2), slot_of(rows, 3)]
 }
 
+fn scale_of(row: &[u16]) -> Scale {
+    Scale {
+        block_type: match row[0] {
+            0 => BlockType::Long,
+            1 => BlockType::Start,
+            2 => BlockType::Short,
+            3 => BlockType::End,
+            other => unreachable!("block type {}", other),
+        },
+        global_gain: row[1],
+        subblock_gain: [row[2], row[3], row[4]],
+        scalefac_scale: row[5] == 1,
+        preflag: row[6] == 1,
+    }
+}
+
 fn slot_of(rows: &[u16; ROWS], n: usize) -> Slot {
     let row = &rows[ROW * n..ROW * (n + 1)];
     if row[0] == LACKING {
         return Slot::Lacking;
     }
+    let scale = scale_of(&row[SCALE_AT..]);
     if let Some(refusal) = Refusal::of(row[0] as u8) {
-        return Slot::Refused(refusal);
+        return Slot::Refused { refusal, scale };
     }
     let mut read = ReadSlot {
         count: row[1] as usize,
         long: [0; 22],
         short: [[0; 3]; 13],
+        scale,
     };
-    read.long.copy_from_slice(&row[2..24]);
+    read.long.copy_from_slice(&row[LONG_AT..SHORT_AT]);
     for (band, windows) in read.short.iter_mut().enumerate() {
-        windows.copy_from_slice(&row[24 + 3 * band..27 + 3 * band]);
+        windows.copy_from_slice(&row[SHORT_AT + 3 * band..][..3]);
     }
     Slot::Read(read)
 }

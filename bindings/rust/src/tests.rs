@@ -12,11 +12,16 @@ fn joined<T: ToString>(values: impl IntoIterator<Item = T>) -> String {
     values.into_iter().map(|v| format!(" {}", v.to_string())).collect()
 }
 
+fn scale_told(s: &Scale) -> String {
+    let [first, second, third] = s.subblock_gain;
+    joined(vec![s.block_type as u16, s.global_gain, first, second, third, s.scalefac_scale as u16, s.preflag as u16])
+}
+
 /// What is printed of the first slot.
 fn first_slot(slots: &[Slot; SLOTS], numbers: &[i32]) -> String {
     match &slots[0] {
-        Slot::Read(read) => format!(" 0 {}{}", read.count, joined(&numbers[..read.count])),
-        Slot::Refused(refusal) => format!(" {} 0", refusal.number()),
+        Slot::Read(read) => format!(" 0 {}{}{}", read.count, scale_told(&read.scale), joined(&numbers[..read.count])),
+        Slot::Refused { refusal, scale } => format!(" {} 0{}", refusal.number(), scale_told(scale)),
         Slot::Lacking => panic!("no first slot"),
     }
 }
@@ -24,10 +29,11 @@ fn first_slot(slots: &[Slot; SLOTS], numbers: &[i32]) -> String {
 fn frame_call(words: &[&str], reservoir: &mut Reservoir) -> String {
     let mut numbers = [7; NUMBERS];
     match reservoir.frame(&bytes_of(words[1]), &mut numbers) {
-        Ok(frame) => format!(" 0 {} {}{}", frame.length, reservoir.length(), first_slot(&frame.slots, &numbers)),
+        Ok(frame) => format!(" 0 {} {} {}{}", frame.length, frame.main_data_begin, reservoir.length(), first_slot(&frame.slots, &numbers)),
         Err(why) => {
             assert!(numbers.iter().all(|&n| n == 7));
-            format!(" {} {} {}", why.refusal.number(), why.length.unwrap_or(0), reservoir.length())
+            assert_eq!(why.length.is_some(), why.main_data_begin.is_some());
+            format!(" {} {} {} {}", why.refusal.number(), why.length.unwrap_or(0), why.main_data_begin.unwrap_or(0), reservoir.length())
         }
     }
 }
@@ -42,10 +48,13 @@ fn slots_call(words: &[&str]) -> String {
 
 fn reorder_call(words: &[&str]) -> String {
     let own: Vec<i32> = words[4..].iter().map(|w| w.parse().unwrap()).collect();
-    let mut numbers = [7; SLOT];
-    numbers[..own.len()].copy_from_slice(&own);
-    let answer = reorder(&bytes_of(words[1]), words[2].parse().unwrap(), &mut numbers);
-    format!(" {}{}", answer.map_or_else(Refusal::number, |()| 0), joined(&numbers[..own.len()]))
+    let slot: usize = words[2].parse().unwrap();
+    let place = SLOT * slot..SLOT * slot + own.len();
+    let mut numbers = [7; NUMBERS];
+    numbers[place.clone()].copy_from_slice(&own);
+    let answer = reorder(&bytes_of(words[1]), slot, &mut numbers);
+    assert!((0..NUMBERS).all(|i| i / SLOT == slot || numbers[i] == 7), "another slot's numbers have changed");
+    format!(" {}{}", answer.map_or_else(Refusal::number, |()| 0), joined(&numbers[place]))
 }
 
 fn sizes_call(words: &[&str]) -> String {
@@ -61,7 +70,8 @@ fn lent_call(words: &[&str]) -> String {
     let (mut reservoir, mut numbers, mut rows) = (vec![0x55; size[0]], vec![7; size[2]], vec![0x7777; size[3]]);
     let told = calls::frame(&bytes_of(words[5]), &mut reservoir, size[1], &mut numbers, &mut rows);
     let same = reservoir.iter().all(|&b| b == 0x55) && numbers.iter().all(|&n| n == 7) && rows.iter().all(|&n| n == 0x7777);
-    format!(" {} {} {} {}", told.refusal, told.length, told.reservoir, if same { "same" } else { "changed" })
+    let changed = if same { "same" } else { "changed" };
+    format!(" {} {} {} {} {}", told.refusal, told.length, told.main_data_begin, told.reservoir, changed)
 }
 
 #[test]
@@ -95,9 +105,8 @@ fn too_small_is_said() {
     let f = bytes_of("fff314c00000400748000800017a00000000000000000000");
     let mut reservoir = Reservoir::new();
     let refused = reservoir.frame(&f, &mut [7; NUMBERS - 1]).unwrap_err();
-    assert_eq!((refused.refusal, refused.length), (Refusal::UnfitMemory, None));
+    assert_eq!((refused.refusal, refused.length, refused.main_data_begin), (Refusal::UnfitMemory, None, None));
     assert_eq!(slots(&f, &f[13..], &mut [7; NUMBERS - 1]), Err(Refusal::UnfitMemory));
-    assert_eq!(reorder(&f, 0, &mut [7; SLOT - 1]), Err(Refusal::UnfitMemory));
     assert_eq!(Refusal::UnfitMemory.to_string(), "unfit memory");
 }
 
@@ -114,6 +123,17 @@ fn factors_are_told() {
 }
 
 const F: &str = "FFF314C00000400748000800017A00000000000000000000";
+/// What is printed of its slot.
+const F_SLOT: &str = " 0 6 0 210 0 0 0 0 0 -1 0 0 0 1 0";
+
+/// A slot past the last of any frame is refused as one that the frame lacks, and no number changes.
+#[test]
+fn no_fifth_slot_is_reordered() {
+    let mut numbers = [7; NUMBERS];
+    assert_eq!(reorder(&bytes_of(F), SLOTS, &mut numbers), Err(Refusal::MadeUpRecord));
+    assert_eq!(reorder(&bytes_of(F), usize::MAX, &mut numbers), Err(Refusal::MadeUpRecord));
+    assert!(numbers.iter().all(|&n| n == 7));
+}
 
 /// A frame that reaches back, cut off: its slots come from what the frames before it left, or are not known.
 #[test]
@@ -124,7 +144,7 @@ fn a_cut_frame_reaches_back() {
     reservoir.frame(&frame, &mut numbers).unwrap();
     frame[4] = 11;
     let told = reservoir.slots(&frame[..14], &mut numbers).unwrap();
-    assert_eq!(first_slot(&told, &numbers), " 0 6 -1 0 0 0 1 0");
+    assert_eq!(first_slot(&told, &numbers), F_SLOT);
     frame[4] = 12;
     assert_eq!(reservoir.slots(&frame[..14], &mut numbers), Err(Refusal::ShortReservoir));
     assert_eq!(reservoir.slots(&frame[..12], &mut numbers), Err(Refusal::AbsentBytes));
@@ -142,11 +162,11 @@ fn a_reader_empties_at_a_gap() {
     while let Some(step) = reader.next(&mut numbers) {
         steps.push(match step {
             Step::Read { at, frame } => format!("read {} {}", at, first_slot(&frame.slots, &numbers)),
-            Step::Short { at, length } => format!("short {} {}", at, length),
+            Step::Short { at, length, main_data_begin } => format!("short {} {} {}", at, length, main_data_begin),
             Step::Gap { from, to, why } => format!("gap {} {} {}", from, to, why.number()),
         });
     }
-    let read = " 0 6 -1 0 0 0 1 0";
-    assert_eq!(steps, [format!("read 0 {}", read), format!("read 24 {}", read), "gap 48 51 3".into(), "short 51 24".into(), format!("read 75 {}", read)]);
+    let read = |at| format!("read {} {}", at, F_SLOT);
+    assert_eq!(steps, [read(0), read(24), "gap 48 51 3".into(), "short 51 24 11".into(), read(75)]);
     assert_eq!(reader.place(), card.len());
 }

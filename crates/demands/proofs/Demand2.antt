@@ -15,7 +15,7 @@ use Rattle.standard.specs.Slots.{SlotsRead, readSlots}
 use Rattle.standard.specs.Reservoir.{emptied}
 use Rattle.standard.specs.Frame.{FrameRead, frameCall}
 use Rattle.standard.specs.Reorder.{reorderOf}
-use Rattle.front_end.specs.Calls.{FrameDone, frameStep, SlotsDone, slotsStep, ReorderDone, reorderStep, sizesTold}
+use Rattle.front_end.specs.Calls.{FrameDone, frameStep, SlotsDone, slotsStep, recordsIn, ReorderDone, reorderStep, sizesTold}
 use Rattle.front_end.proofs.front_end_frame.Reads as front-end-frame
 use Rattle.front_end.proofs.front_end_frame.Kinds as front-end-frame-kinds
 use Rattle.front_end.proofs.front_end_slots.Reads as front-end-slots
@@ -69,8 +69,8 @@ exported-frame-is c = c .promised
 pub exported-slots-are : (c : Call front-end-slots-kinds.ps front-end-slots-kinds.r front-end-slots.Post)
     → let nums = now (c .args .1 .1 .0) in
     let rows = now (c .args .1 .1 .1 .0) in
-    SlotsDone nums rows (slotsStep (now (c .args .0)) (now (c .args .1 .0)) (length nums) (length rows)) (c .answer) (now (c .exit .1 .1 .0))
-    (now (c .exit .1 .1 .1 .0))
+    SlotsDone nums rows (recordsIn (now (c .args .0))) (slotsStep (now (c .args .0)) (now (c .args .1 .0)) (length nums) (length rows)) (c .answer)
+    (now (c .exit .1 .1 .0)) (now (c .exit .1 .1 .1 .0))
 exported-slots-are c = c .promised
 
 pub exported-emptied-is : (c : Call front-end-emptied-kinds.ps front-end-emptied-kinds.r front-end-emptied.Post) → c .answer ≡ emptied .length

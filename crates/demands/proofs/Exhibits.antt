@@ -49,7 +49,7 @@ use Rattle.huffman.specs.declared.HuffmanAnswer.the-variants.{Uncounted}
 use Rattle.codes.specs.Flat.{trees}
 use Rattle.demands.proofs.Calls.{HuffmanCall, slotSaid, FrameStep, frame, bytes, reservoir, numbers, SlotsCall, slotsHeader, slotsInfo, mainData, slotsNumbers, TurnCall, ReorderCall, reorderHeader, reorderRecord, reorderNumbers, SideInfoCall, IsHeaderCall, IsSideInfoCall, IsRecordCall, MainSizeCall, EmptiedCall, TreesCall, LookupCall, lookupTrees, lookupTable, lookupBits}
 use Rattle.demands.proofs.Made.{lend, answerOf, answersOf, fourOf, frameStep, slotsCall, sideInfoCall, reorderCall, turnCall}
-use Rattle.front_end.specs.Calls.{rowsAfter, frameStep as stepIn, frameTold, slotsStep, reorderStep}
+use Rattle.front_end.specs.Calls.{perRows, rowsAfter, frameStep as stepIn, frameTold, slotsStep, reorderStep}
 use Rattle.demands.proofs.Exported.{ExportedFrame, ExportedSlots, ExportedReorder}
 use Rattle.demands.proofs.Bounds.{InTurn}
 use Rattle.demands.proofs.Worked.{Lent, way-known}
@@ -320,7 +320,7 @@ exported s lent stated d rows =
         lend s,
         (
           lend (bytesAfter lent (p .kept)),
-          (stated, (lend (numbersFrom 0 (p .slots) d), (lend (rowsAfter (p .verdict) (slotsTold (p .slots)) rows), tt))),
+          (stated, (lend (numbersFrom 0 (p .slots) d), (lend (rowsAfter (p .verdict) (p .info .slots) (slotsTold (p .slots)) rows), tt))),
         ),
       );
       promised = record { answer = refl; bytes = refl; numbers-are = refl; rows-are = refl };
@@ -330,7 +330,7 @@ pub exported-refused : exported [] [] 0 [] [] .answer .refusal ≡ 1
 unfolding exported stepIn pick frameTold noStep
 exported-refused = refl
 
-pub exported-short : exported (reachingBack 1) (memory 0) 0 zeros (replicate 252 0) .answer .refusal ≡ 13
+pub exported-short : exported (reachingBack 1) (memory 0) 0 zeros (replicate perRows 0) .answer .refusal ≡ 13
 unfolding exported stepIn frameTold step
 exported-short = ap (λ (p : Step). frameTold 0 p .refusal) (passed (noStep UnfitMemory) refl ∙ comes-to (reachingBack 1) 0)
 

@@ -18,7 +18,8 @@ use Rattle.standard.specs.Reservoir.{bytesAfter as bytesKept, reservoirAfter}
 use Rattle.standard.specs.Frame.{Step, noStep, shortStep, fullStep, mainOf}
 use Rattle.standard.specs.StepLaws.{Way, refusedWay, shortWay, fullWay, call-way}
 use Rattle.standard.specs.declared.FrameHeader.{FrameHeader}
-use Rattle.front_end.specs.Calls.{numberTold, rowsAfter, frameStep, frameTold, FrameDone, SlotsDone, ReorderDone}
+use Rattle.standard.specs.declared.SlotRecord.{SlotRecord}
+use Rattle.front_end.specs.Calls.{perRows, numberTold, rowsAfter, frameStep, frameTold, FrameDone, SlotsDone, ReorderDone}
 use Rattle.front_end.specs.declared.FrameTold.{FrameTold}
 use Rattle.front_end.proofs.front_end_frame.Reads as front-end-frame
 use Rattle.front_end.proofs.front_end_frame.Kinds as front-end-frame-kinds
@@ -38,7 +39,8 @@ ExportedFrame = Call front-end-frame-kinds.ps front-end-frame-kinds.r front-end-
 step-way : (s lent : List ℕ) (stated d room : ℕ) → Way s (take stated lent) (frameStep s lent stated d room)
 unfolding frameStep
 step-way s lent stated d room =
-    either-way (Way s (take stated lent)) (ltb room 252) _ _ (λ e. refusedWay UnfitMemory (λ z. let n : _≡_ {A = ℕ} 1 13 = ap numberOf z in omega arith) refl)
+    either-way (Way s (take stated lent)) (ltb room perRows) _ _
+    (λ e. refusedWay UnfitMemory (λ z. let n : _≡_ {A = ℕ} 1 13 = ap numberOf z in omega arith) refl)
     (λ e. call-way s lent stated d)
 
 module _ {lent left rows now-rows : List ℕ} {stated : ℕ} {d nums : List ℤ} {p : Step} {r : FrameTold}
@@ -54,7 +56,7 @@ module _ {lent left rows now-rows : List ℕ} {stated : ℕ} {d nums : List ℤ}
   frame-refused (refusedWay j n e) k v m o = (
     f .bytes ∙ ap (λ (x : Step). bytesKept lent (x .kept)) e,
     f .numbers-are ∙ ap (λ (x : Step). numbersFrom 0 (x .slots) d) e,
-    f .rows-are ∙ ap (λ (x : Step). rowsAfter (x .verdict) (slotsTold (x .slots)) rows) e,
+    f .rows-are ∙ ap (λ (x : Step). rowsAfter (x .verdict) (x .info .slots) (slotsTold (x .slots)) rows) e,
   )
   frame-refused (shortWay h i w l e) k v m o = absurd (o (sym (by-step e k v)))
   frame-refused (fullWay h i w l e) k v m o = absurd (m (sym (by-step e k v)))
@@ -70,7 +72,7 @@ module _ {lent left rows now-rows : List ℕ} {stated : ℕ} {d nums : List ℤ}
     f .bytes ∙ ap (λ (x : Step). bytesKept lent (x .kept)) e,
     ap (λ (x : FrameTold). x .reservoir) (f .answer) ∙ ap (λ (x : Step). frameTold stated x .reservoir) e,
     f .numbers-are ∙ ap (λ (x : Step). numbersFrom 0 (x .slots) d) e,
-    f .rows-are ∙ ap (λ (x : Step). rowsAfter (x .verdict) (slotsTold (x .slots)) rows) e,
+    f .rows-are ∙ ap (λ (x : Step). rowsAfter (x .verdict) (x .info .slots) (slotsTold (x .slots)) rows) e,
   )
   frame-short (fullWay h i w l e) v = let z : _≡_ {A = ℕ} 0 13 = by-step e 13 v in absurd (omega arith)
 
@@ -107,13 +109,13 @@ ExportedSlots = Call front-end-slots-kinds.ps front-end-slots-kinds.r front-end-
 abbrev pub ExportedReorder : Type 0
 ExportedReorder = Call front-end-reorder-kinds.ps front-end-reorder-kinds.r front-end-reorder.Post
 
-slots-refused : {d nums : List ℤ} {rows now-rows : List ℕ} {t : Told (List Outcome)} {r : ℕ} → SlotsDone d rows t r nums now-rows → (r ≡ 0 → ⊥) → (nums ≡ d)
-    × (now-rows ≡ rows)
+slots-refused : {d nums : List ℤ} {rows now-rows : List ℕ} {rs : List SlotRecord} {t : Told (List Outcome)} {r : ℕ} → SlotsDone d rows rs t r nums now-rows
+    → (r ≡ 0 → ⊥) → (nums ≡ d) × (now-rows ≡ rows)
 unfolding verdictOf toldOr numbersFrom rowsAfter
-slots-refused {d} {nums} {rows} {now-rows} {t} {r} f m = go t (f .answer) (f .numbers-are) (f .rows-are)
+slots-refused {d} {nums} {rows} {now-rows} {rs} {t} {r} f m = go t (f .answer) (f .numbers-are) (f .rows-are)
   where
     go : (t : Told (List Outcome)) → r ≡ numberTold (verdictOf t) → nums ≡ numbersFrom 0 (toldOr [] t) d
-        → now-rows ≡ rowsAfter (verdictOf t) (slotsTold (toldOr [] t)) rows
+        → now-rows ≡ rowsAfter (verdictOf t) rs (slotsTold (toldOr [] t)) rows
         → (nums ≡ d) × (now-rows ≡ rows)
     go (refused j) e n w = (n, w)
     go (told os) e n w = absurd (m e)

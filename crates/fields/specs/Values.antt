@@ -82,6 +82,13 @@ recordValues r =
     ∷ getD (r .«table_select») 0 0 ∷ getD (r .«table_select») 1 0 ∷ getD (r .«table_select») 2 0
     ∷ r .«region0_count» ∷ r .«region1_count» ∷ bitOf (r .preflag) ∷ bitOf (r .«scalefac_scale») ∷ bitOf (r .«count1table_select») ∷ []
 
+-- what a slot's numbers are scaled by (11172-3, 2.4.3.4.7.1)
+unfoldable pub scaleValues : SlotRecord → List ℕ
+scaleValues r =
+    blockNumber (r .«block_type») ∷ r .«global_gain»
+    ∷ gainNumber (getD (r .«subblock_gain») 0 noGain) ∷ gainNumber (getD (r .«subblock_gain») 1 noGain) ∷ gainNumber (getD (r .«subblock_gain») 2 noGain)
+    ∷ bitOf (r .«scalefac_scale») ∷ bitOf (r .preflag) ∷ []
+
 -- ---- what a frame's answer tells, and where the next try begins
 -- the fields are told of a frame that was read, and of one that only reaches too far back
 unfoldable pub isTold : Verdict → Bool

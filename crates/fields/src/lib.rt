@@ -1,4 +1,4 @@
-// A frame's answer as numbers, for programs that print it or hold it to another reader's: the fields of its header, its side
+// A frame's answer as numbers, for the exported rows and for programs that print it or hold it to another reader's: the fields of its header, its side
 // information and its slots' records, and where the next frame is tried.
 use derived::bps;
 use derived::hz;
@@ -15,9 +15,9 @@ use standard::SideInfo;
 use standard::SlotRecord;
 use standard::Verdict;
 ghost use mathlib.Core.Path.{_≡_};
-ghost use Rattle.fields.specs.Values.{bitOf, versionNumber, modeNumber, isMidSide, emphasisNumber, blockNumber, headerValues, sideValues, recordValues, isTold, stepOf};
+ghost use Rattle.fields.specs.Values.{bitOf, versionNumber, modeNumber, isMidSide, emphasisNumber, blockNumber, headerValues, sideValues, recordValues, scaleValues, isTold, stepOf};
 
-fn bit_of(b: bool) -> u64
+fn bit_of(b: bool) -> u8
     ensures { λ r. ⌜ r ≡ bitOf b ⌝ }
 {
     if b { 1 } else { 0 }
@@ -29,7 +29,7 @@ fn wide(n: u8) -> u64
     n as u64
 }
 
-fn version_number(v: MpegVersion) -> u64
+fn version_number(v: MpegVersion) -> u8
     ensures { λ r. ⌜ r ≡ versionNumber v ⌝ }
 {
     match v {
@@ -39,7 +39,7 @@ fn version_number(v: MpegVersion) -> u64
     }
 }
 
-fn mode_number(c: Channels) -> u64
+fn mode_number(c: Channels) -> u8
     ensures { λ r. ⌜ r ≡ modeNumber c ⌝ }
 {
     match c {
@@ -67,7 +67,7 @@ fn is_mid_side(c: Channels) -> bool
     }
 }
 
-fn emphasis_number(e: Emphasis) -> u64
+fn emphasis_number(e: Emphasis) -> u8
     ensures { λ r. ⌜ r ≡ emphasisNumber e ⌝ }
 {
     match e {
@@ -77,7 +77,7 @@ fn emphasis_number(e: Emphasis) -> u64
     }
 }
 
-fn block_number(b: BlockType) -> u64
+fn block_number(b: BlockType) -> u8
     ensures { λ r. ⌜ r ≡ blockNumber b ⌝ }
 {
     match b {
@@ -98,17 +98,17 @@ pub fn header_values(h: FrameHeader) -> [u64; 11]
     let channels = h.channels;
     let emphasis = h.emphasis;
     [
-        version_number(version),
-        bit_of(h.crc),
+        wide(version_number(version)),
+        wide(bit_of(h.crc)),
         bps(bitrate) as u64,
         hz(rate) as u64,
-        bit_of(h.padding),
-        mode_number(channels),
-        bit_of(is_mid_side(channels)),
-        bit_of(is_intensity(channels)),
-        bit_of(h.copyright),
-        bit_of(h.original),
-        emphasis_number(emphasis),
+        wide(bit_of(h.padding)),
+        wide(mode_number(channels)),
+        wide(bit_of(is_mid_side(channels))),
+        wide(bit_of(is_intensity(channels))),
+        wide(bit_of(h.copyright)),
+        wide(bit_of(h.original)),
+        wide(emphasis_number(emphasis)),
     ]
 }
 
@@ -119,14 +119,14 @@ pub fn side_values(i: SideInfo) -> [u64; 9]
     let s = i.scfsi;
     [
         i.main_data_begin as u64,
-        bit_of(s[0]),
-        bit_of(s[1]),
-        bit_of(s[2]),
-        bit_of(s[3]),
-        bit_of(s[4]),
-        bit_of(s[5]),
-        bit_of(s[6]),
-        bit_of(s[7]),
+        wide(bit_of(s[0])),
+        wide(bit_of(s[1])),
+        wide(bit_of(s[2])),
+        wide(bit_of(s[3])),
+        wide(bit_of(s[4])),
+        wide(bit_of(s[5])),
+        wide(bit_of(s[6])),
+        wide(bit_of(s[7])),
     ]
 }
 
@@ -142,7 +142,7 @@ pub fn record_values(r: SlotRecord) -> [u64; 16]
         r.big_values as u64,
         r.global_gain as u64,
         r.scalefac_compress as u64,
-        block_number(block),
+        wide(block_number(block)),
         wide(gain_number(g[0])),
         wide(gain_number(g[1])),
         wide(gain_number(g[2])),
@@ -151,9 +151,26 @@ pub fn record_values(r: SlotRecord) -> [u64; 16]
         wide(t[2]),
         r.region0_count as u64,
         r.region1_count as u64,
-        bit_of(r.preflag),
+        wide(bit_of(r.preflag)),
+        wide(bit_of(r.scalefac_scale)),
+        wide(bit_of(r.count1table_select)),
+    ]
+}
+
+// What a slot's numbers are scaled by (11172-3, 2.4.3.4.7.1): its block type, global_gain, the three subblock gains as 0 to 7, scalefac_scale and preflag.
+pub fn scale_values(r: SlotRecord) -> [u8; 7]
+    ensures { λ v. ⌜ v ≡ scaleValues r ⌝ }
+{
+    let block = r.block_type;
+    let g = r.subblock_gain;
+    [
+        block_number(block),
+        r.global_gain,
+        gain_number(g[0]),
+        gain_number(g[1]),
+        gain_number(g[2]),
         bit_of(r.scalefac_scale),
-        bit_of(r.count1table_select),
+        bit_of(r.preflag),
     ]
 }
 

@@ -1,7 +1,7 @@
 -- Rows written piece by piece, and what the exported calls answer at each of their returns.
 use mathlib.Core.Path.{_≡_, refl, sym, ap, _∙_, subst}
 use mathlib.Core.Bool.{true, false, _||_}
-use mathlib.Core.List.{List, [], _∷_, map}
+use mathlib.Core.List.{List, [], _∷_, _++_, append-assoc}
 use Prim.Native.Nat.{ℕ, suc, _+_, _*_, _≤_, _<_}
 use native.Mathlib.Omega.{arith}
 use borrow.Author.Tests.{lt-ltb, le-ltb}
@@ -9,10 +9,12 @@ use lib.Dec.{ltb}
 use lib.IntN.{ℤ}
 use lib.ListN.{length, getD, take, drop, set, length-set, length-append, length-map, drop-of-length-le, List·getD-map}
 use lib.Seq.{paste, length-paste, take-append-le, drop-cons, drop-at}
+use Rattle.standard.specs.Sizes.{perFrame}
 use Rattle.standard.specs.Told.{Told, refused, told, verdictOf, toldOr}
 use Rattle.standard.specs.ToldLaws.{picked, passed}
 use Rattle.standard.specs.Refusals.{numberOf, Answers}
 use Rattle.standard.specs.CopyLaws.{copying-begin, copying-turn, paste-next}
+use Rattle.standard.specs.declared.SlotRecord.{SlotRecord}
 use Rattle.standard.specs.declared.SlotAnswer.{SlotAnswer}
 use Rattle.standard.specs.declared.FrameHeader.{FrameHeader}
 use Rattle.standard.specs.declared.SideInfo.{SideInfo}
@@ -25,72 +27,100 @@ use Rattle.standard.specs.Slots.{Outcome, slotsTold, numbersFrom, readSlots, Sl
 use Rattle.standard.specs.Reservoir.{reservoirAfter, bytesAfter}
 use Rattle.standard.specs.Frame.{Step, noStep, frameCall, FrameRead}
 use Rattle.standard.specs.Header.{headerOf, granules, channelCount}
-use Rattle.standard.specs.SideInfo.{sideOf}
+use Rattle.standard.specs.SideInfo.{sideOf, noSide}
 use Rattle.standard.specs.Reorder.{reorderOf}
 use Rattle.standard.specs.Record.{pastRecord}
+use Rattle.fields.specs.Values.{scaleValues}
 use Rattle.main_data.proofs.Turns.{four-at-most}
-use Rattle.front_end.specs.Calls.{numberTold, saidNumber, saidCount, slotRow, rowsFrom, rowsAfter, following, under, reorderBy, reorderStep, ReorderDone, slotsStep, SlotsDone, frameStep, frameTold, FrameDone}
+use Rattle.front_end.specs.declared.FrameTold.{FrameTold}
+use Rattle.front_end.specs.Calls.{perRow, perRows, numberTold, saidNumber, saidCount, slotRow, rowsFrom, rowsAfter, following, under, reorderBy, reorderStep, ReorderDone, slotsStep, recordsIn, SlotsDone, frameStep, frameTold, FrameDone}
 
 -- ---- rows
--- a row written in its four pieces
-module _ (d : List ℕ) (at : ℕ) (t : SlotAnswer) (long : length (t .long) ≡ 22) (short : length (t .short) ≡ 39) (room : at + 63 ≤ length d) where
-  row-length : length (slotRow t) ≡ 63
-  unfolding slotRow
-  row-length = simp length-append (omega (arith, long, short))
+-- a row written in its five pieces
+module _ (d : List ℕ) (at : ℕ) (r : SlotRecord) (t : SlotAnswer) (long : length (t .long) ≡ 22) (short : length (t .short) ≡ 39)
+    (room : at + perRow ≤ length d) where
+  scale-length : length (scaleValues r) ≡ 7
+  unfolding scaleValues
+  scale-length = refl
 
-  row-two : {x y : ℕ} → x ≡ saidNumber (t .outcome) → y ≡ saidCount (t .outcome) → set (set d at x) (at + 1) y ≡ paste d at (slotRow t) 2
+  row-length : length (slotRow r t) ≡ perRow
+  unfolding slotRow
+  row-length = simp (length-append, length-append) (omega (arith, long, short, scale-length))
+
+  row-two : {x y : ℕ} → x ≡ saidNumber (t .outcome) → y ≡ saidCount (t .outcome) → set (set d at x) (at + 1) y ≡ paste d at (slotRow r t) 2
   unfolding slotRow
   row-two {x} {y} p q =
       let o : at ≡ at + 0 = omega arith in
-      copying-turn _ _ _ _ _ (copying-turn _ _ _ _ _ (copying-begin (slotRow t) d at) 0 at x o p (omega arith) (omega (arith, row-length))) 0
+      copying-turn _ _ _ _ _ (copying-turn _ _ _ _ _ (copying-begin (slotRow r t) d at) 0 at x o p (omega arith) (omega (arith, row-length))) 0
       (at + 1) y refl q (omega arith) (omega (arith, row-length)) .same
 
-  row-long : paste (paste d at (slotRow t) 2) (at + 2) (t .long) 22 ≡ paste d at (slotRow t) 24
+  row-long : paste (paste d at (slotRow r t) 2) (at + 2) (t .long) 22 ≡ paste d at (slotRow r t) 24
   unfolding slotRow
   row-long =
-      paste-next (slotRow t) d (t .long) at 2 22 (omega arith) (omega (arith, row-length)) (sym (take-append-le 22 (t .long) (t .short) (omega (arith, long))))
+      paste-next (slotRow r t) d (t .long) at 2 22 (omega arith) (omega (arith, row-length))
+      (sym (take-append-le 22 (t .long) (t .short ++ scaleValues r) (omega (arith, long))))
 
-  row-short : paste (paste d at (slotRow t) 24) (at + 24) (t .short) 39 ≡ paste d at (slotRow t) 63
+  row-short : paste (paste d at (slotRow r t) 24) (at + 24) (t .short) 39 ≡ paste d at (slotRow r t) 63
   unfolding slotRow
   row-short =
-      paste-next (slotRow t) d (t .short) at 24 39 (omega arith) (omega (arith, row-length)) (ap (take 39) (sym (drop-at (t .long) (t .short) 22 long)))
+      paste-next (slotRow r t) d (t .short) at 24 39 (omega arith) (omega (arith, row-length))
+      (sym (ap (take 39) (drop-at (t .long) (t .short ++ scaleValues r) 22 long) ∙ take-append-le 39 (t .short) (scaleValues r) (omega (arith, short))))
 
-  pub row-put : {x y : ℕ} → x ≡ saidNumber (t .outcome) → y ≡ saidCount (t .outcome)
-      → paste (paste (set (set d at x) (at + 1) y) (at + 2) (t .long) (length (t .long))) (at + 24) (t .short) (length (t .short)) ≡ paste d at (slotRow t) 63
-  row-put p q =
-      (λ j. paste (paste (row-two p q j) (at + 2) (t .long) (long j)) (at + 24) (t .short) (short j))
-      ∙ ap (λ (x : List ℕ). paste x (at + 24) (t .short) 39) row-long
-      ∙ row-short
+  row-scale : paste (paste d at (slotRow r t) 63) (at + 63) (scaleValues r) 7 ≡ paste d at (slotRow r t) perRow
+  unfolding slotRow
+  row-scale =
+      let both : length (t .long ++ t .short) ≡ 61 = simp length-append (omega (arith, long, short)) in
+      paste-next (slotRow r t) d (scaleValues r) at 63 7 (omega arith) (omega (arith, row-length))
+      (sym (ap (λ (x : List ℕ). take 7 (drop 61 x)) (sym (append-assoc (t .long) (t .short) (scaleValues r)))
+      ∙ ap (take 7) (drop-at (t .long ++ t .short) (scaleValues r) 61 both)))
 
--- as many numbers after its first pieces, and after all four
-module _ (d : List ℕ) (at x y : ℕ) (long : List ℕ) (l : length long ≡ 22) (room : at + 63 ≤ length d) where
-  pub same-after : {left : List ℕ} → left ≡ paste (set (set d at x) (at + 1) y) (at + 2) long (length long) → length left ≡ length d
-  same-after e =
+  pub row-put : {x y : ℕ} {v : List ℕ} → x ≡ saidNumber (t .outcome) → y ≡ saidCount (t .outcome) → v ≡ scaleValues r
+      → paste (paste (paste (set (set d at x) (at + 1) y) (at + 2) (t .long) (length (t .long))) (at + 24) (t .short) (length (t .short))) (at + 63) v
+      (length v)
+      ≡ paste d at (slotRow r t) perRow
+  row-put p q e =
+      (λ j. paste (paste (paste (row-two p q j) (at + 2) (t .long) (long j)) (at + 24) (t .short) (short j)) (at + 63) (e j) ((ap length e ∙ scale-length) j))
+      ∙ ap (λ (x : List ℕ). paste (paste x (at + 24) (t .short) 39) (at + 63) (scaleValues r) 7) row-long
+      ∙ ap (λ (x : List ℕ). paste x (at + 63) (scaleValues r) 7) row-short
+      ∙ row-scale
+
+-- as many numbers after each of its pieces
+as-many : (d : List ℕ) (at : ℕ) (piece : List ℕ) {left : List ℕ} → at + length piece ≤ length d → left ≡ paste d at piece (length piece)
+    → length left ≡ length d
+as-many d at piece h e = ap length e ∙ length-paste d at piece (length piece) h (omega arith)
+
+module _ (d : List ℕ) (at x y : ℕ) (room : at + perRow ≤ length d) (long : List ℕ) (l : length long ≡ 22) {one : List ℕ}
+    (e : one ≡ paste (set (set d at x) (at + 1) y) (at + 2) long (length long)) where
+  pub after-long : length one ≡ length d
+  after-long =
       let two : length (set (set d at x) (at + 1) y) ≡ length d = length-set (set d at x) (at + 1) y ∙ length-set d at x in
-      ap length e ∙ length-paste (set (set d at x) (at + 1) y) (at + 2) long (length long) (omega (arith, l, two, room)) (omega arith) ∙ two
+      as-many (set (set d at x) (at + 1) y) (at + 2) long (omega (arith, l, two, room)) e ∙ two
 
-  pub same-row : (short : List ℕ) {left last : List ℕ} → length short ≡ 39 → left ≡ paste (set (set d at x) (at + 1) y) (at + 2) long (length long)
-      → last ≡ paste left (at + 24) short (length short) → length last ≡ length d
-  same-row short {left} s e f =
-      let kept = same-after e in
-      ap length f ∙ length-paste left (at + 24) short (length short) (omega (arith, s, kept, room)) (omega arith) ∙ kept
+  module _ (short : List ℕ) (s : length short ≡ 39) {two : List ℕ} (f : two ≡ paste one (at + 24) short (length short)) where
+    pub after-short : length two ≡ length d
+    after-short = as-many one (at + 24) short (omega (arith, s, after-long, room)) f ∙ after-long
+
+    pub after-scale : (scale : List ℕ) {three : List ℕ} → length scale ≡ 7 → three ≡ paste two (at + 63) scale (length scale) → length three ≡ length d
+    after-scale scale v g = as-many two (at + 63) scale (omega (arith, v, after-short, room)) g ∙ after-short
 
 -- slots in turn
 -- the k-th row is written, and those after it remain
-pub rows-turn : (slots : List SlotAnswer) (d e : List ℕ) (k : ℕ) (z : SlotAnswer) → length slots ≡ 4 → k < 4
-    → rowsFrom (63 * k) (drop k slots) d ≡ e
-    → rowsFrom (63 * (k + 1)) (drop (k + 1) slots) (paste d (63 * k) (slotRow (getD slots k z)) 63) ≡ e
+pub rows-turn : (records : List SlotRecord) (slots : List SlotAnswer) (d e : List ℕ) (k : ℕ) (y : SlotRecord) (z : SlotAnswer) → length records ≡ 4
+    → length slots ≡ 4 → k < 4
+    → rowsFrom (perRow * k) (drop k records) (drop k slots) d ≡ e
+    → rowsFrom (perRow * (k + 1)) (drop (k + 1) records) (drop (k + 1) slots) (paste d (perRow * k) (slotRow (getD records k y) (getD slots k z)) perRow) ≡ e
 unfolding rowsFrom
-rows-turn slots d e k z l h w =
-    let a : 63 * (k + 1) ≡ 63 * k + 63 = omega arith in
+rows-turn records slots d e k y z l m h w =
+    let a : perRow * (k + 1) ≡ perRow * k + perRow = omega arith in
     let b : k + 1 ≡ suc k = omega arith in
-    (λ j. rowsFrom (a j) (drop (b j) slots) (paste d (63 * k) (slotRow (getD slots k z)) 63))
-    ∙ sym (ap (λ (x : List SlotAnswer). rowsFrom (63 * k) x d) (drop-cons slots k z (omega arith))) ∙ w
+    (λ j. rowsFrom (a j) (drop (b j) records) (drop (b j) slots) (paste d (perRow * k) (slotRow (getD records k y) (getD slots k z)) perRow))
+    ∙ sym (λ j. rowsFrom (perRow * k) (drop-cons records k y (omega arith) j) (drop-cons slots k z (omega arith) j) d) ∙ w
 
-pub rows-end : (slots : List SlotAnswer) (d e : List ℕ) (k : ℕ) → length slots ≡ 4 → 4 ≤ k → rowsFrom (63 * k) (drop k slots) d ≡ e → d ≡ e
+pub rows-end : (records : List SlotRecord) (slots : List SlotAnswer) (d e : List ℕ) (k : ℕ) → length records ≡ 4 → 4 ≤ k
+    → rowsFrom (perRow * k) (drop k records) (drop k slots) d ≡ e → d ≡ e
 unfolding rowsFrom
-rows-end slots d e k l h w =
-    sym (ap (λ (x : List SlotAnswer). rowsFrom (63 * k) x d) (drop-of-length-le slots {i = k} (omega arith))) ∙ w
+rows-end records slots d e k l h w =
+    sym (ap (λ (x : List SlotRecord). rowsFrom (perRow * k) x (drop k slots) d) (drop-of-length-le records {i = k} (omega arith))) ∙ w
 
 -- ---- a frame's header and side information, read before the rest
 -- at most four slots, by the sizes at hand
@@ -145,64 +175,79 @@ module _ (s : List ℕ) (n : ℕ) (d : List ℤ) where
   reorder-lacking h i l = passed _ (le-ltb n (granules h * channelCount h) l)
 
 -- the slots from given main data
-pub slots-refused : {d numbers : List ℤ} {rows left : List ℕ} {t : Told (List Outcome)} {r : ℕ} (why : Refusal) → t ≡ refused why → r ≡ numberOf why
-    → numbers ≡ d → left ≡ rows
-    → SlotsDone d rows t r numbers left
+pub slots-refused : {d numbers : List ℤ} {rows left : List ℕ} {rs : List SlotRecord} {t : Told (List Outcome)} {r : ℕ} (why : Refusal)
+    → t ≡ refused why → r ≡ numberOf why → numbers ≡ d → left ≡ rows
+    → SlotsDone d rows rs t r numbers left
 unfolding verdictOf toldOr rowsAfter numbersFrom
-slots-refused {d} {rows = rows} why e n m l = record {
+slots-refused {d} {rows = rows} {rs = rs} why e n m l = record {
   answer = n ∙ sym (ap (λ (x : Told (List Outcome)). numberTold (verdictOf x)) e);
   numbers-are = m ∙ sym (ap (λ (x : Told (List Outcome)). numbersFrom 0 (toldOr [] x) d) e);
-  rows-are = l ∙ sym (ap (λ (x : Told (List Outcome)). rowsAfter (verdictOf x) (slotsTold (toldOr [] x)) rows) e);
+  rows-are = l ∙ sym (ap (λ (x : Told (List Outcome)). rowsAfter (verdictOf x) rs (slotsTold (toldOr [] x)) rows) e);
 }
 
 module _ (s main : List ℕ) (d room : ℕ) where
-  pub slots-unfit : ltb room 252 || ltb d 2304 ≡ true → slotsStep s main d room ≡ refused UnfitMemory
+  pub slots-unfit : ltb room perRows || ltb d perFrame ≡ true → slotsStep s main d room ≡ refused UnfitMemory
   unfolding slotsStep
   slots-unfit h = picked _ h
 
-  pub slots-fit : ltb room 252 || ltb d 2304 ≡ false → slotsStep s main d room ≡ under s (λ (h : FrameHeader) (i : SideInfo). readSlots h i main d)
+  pub slots-fit : ltb room perRows || ltb d perFrame ≡ false → slotsStep s main d room ≡ under s (λ (h : FrameHeader) (i : SideInfo). readSlots h i main d)
   unfolding slotsStep
   slots-fit h = passed _ h
 
-pub slots-done : {d numbers : List ℤ} {rows left : List ℕ} {t u : Told (List Outcome)} {a : SlotsAnswer} {r : ℕ} → u ≡ t → SlotsRead d t a numbers
-    → (r ≡ numberTold (a .verdict)) × (left ≡ rowsAfter (a .verdict) (a .slots) rows) → SlotsDone d rows u r numbers left
-slots-done {d} {numbers} {rows} {left} {t} {u} {a} {r} e s w =
-    subst (λ (x : Told (List Outcome)). SlotsDone d rows x r numbers left) (sym e)
+-- the records are those of the side information
+pub records-in : (s : List ℕ) {h : FrameHeader} {i : SideInfo} → headerOf s ≡ told h → sideOf h s ≡ told i → recordsIn s ≡ i .slots
+unfolding recordsIn toldOr
+records-in s e g = ap (λ (x : Told SideInfo). toldOr noSide x .slots) (under-both s (λ (h : FrameHeader) (i : SideInfo). told i) e g)
+
+pub slots-done : {d numbers : List ℤ} {rows left : List ℕ} {rs qs : List SlotRecord} {t u : Told (List Outcome)} {a : SlotsAnswer} {r : ℕ} → rs ≡ qs → u ≡ t
+    → SlotsRead d t a numbers
+    → (r ≡ numberTold (a .verdict)) × (left ≡ rowsAfter (a .verdict) qs (a .slots) rows) → SlotsDone d rows rs u r numbers left
+slots-done {d} {numbers} {rows} {left} {rs} {qs} {t} {u} {a} {r} same e s w =
+    subst (λ (x : Told (List Outcome)). SlotsDone d rows rs x r numbers left) (sym e)
     (record {
       answer = w .0 ∙ ap numberTold (s .verdict);
       numbers-are = s .numbers;
-      rows-are = w .1 ∙ (λ j. rowsAfter (s .verdict j) (s .slots j) rows);
+      rows-are = w .1 ∙ (λ j. rowsAfter (s .verdict j) (sym same j) (s .slots j) rows);
     })
 
 -- a frame
 module _ (s lent : List ℕ) (stated d room : ℕ) where
-  pub room-few : room < 252 → frameStep s lent stated d room ≡ noStep UnfitMemory
+  pub room-few : room < perRows → frameStep s lent stated d room ≡ noStep UnfitMemory
   unfolding frameStep
-  room-few h = picked _ (lt-ltb room 252 h)
+  room-few h = picked _ (lt-ltb room perRows h)
 
-  pub room-fits : 252 ≤ room → frameStep s lent stated d room ≡ frameCall s lent stated d
+  pub room-fits : perRows ≤ room → frameStep s lent stated d room ≡ frameCall s lent stated d
   unfolding frameStep
-  room-fits h = passed _ (le-ltb room 252 h)
+  room-fits h = passed _ (le-ltb room perRows h)
 
 pub frame-few : {lent left rows told-rows : List ℕ} {stated : ℕ} {d numbers : List ℤ} {p : Step} {n : ℕ} → p ≡ noStep UnfitMemory → n ≡ numberOf UnfitMemory
     → left ≡ lent → numbers ≡ d → told-rows ≡ rows
-    → FrameDone lent stated d rows p (record { refusal = n; length = 0; reservoir = stated }) left numbers told-rows
-unfolding noStep frameTold reservoirAfter bytesAfter numbersFrom rowsAfter
+    → FrameDone lent stated d rows p (record { refusal = n; length = 0; «main_data_begin» = 0; reservoir = stated }) left numbers told-rows
+unfolding noStep noSide frameTold reservoirAfter bytesAfter numbersFrom rowsAfter
 frame-few {lent} {left} {rows} {told-rows} {stated} {d} {numbers} {p} {n} e f l m t =
-    subst (λ (x : Step). FrameDone lent stated d rows x (record { refusal = n; length = 0; reservoir = stated }) left numbers told-rows) (sym e)
-    (record { answer = λ j. record { refusal = f j; length = 0; reservoir = stated }; bytes = l; numbers-are = m; rows-are = t })
+    subst (λ (x : Step). FrameDone lent stated d rows x (record { refusal = n; length = 0; «main_data_begin» = 0; reservoir = stated }) left numbers told-rows)
+    (sym e)
+    (record { answer = λ j. record { refusal = f j; length = 0; «main_data_begin» = 0; reservoir = stated }; bytes = l; numbers-are = m; rows-are = t })
+
+-- the answer in numbers, with the verdict's number at hand
+abbrev pub numbersOf : ℕ → FrameAnswer → FrameTold
+numbersOf n a = record { refusal = n; length = a .length; «main_data_begin» = a .info .«main_data_begin»; reservoir = a .reservoir .length }
 
 pub frame-done : {lent left rows told-rows : List ℕ} {stated : ℕ} {d numbers : List ℤ} {p q : Step} {a : FrameAnswer} {n : ℕ} → q ≡ p
     → FrameRead lent (record { length = stated }) d p a left numbers
-    → (n ≡ numberTold (a .verdict)) × (told-rows ≡ rowsAfter (a .verdict) (a .slots) rows)
-    → FrameDone lent stated d rows q (record { refusal = n; length = a .length; reservoir = a .reservoir .length }) left numbers told-rows
+    → (n ≡ numberTold (a .verdict)) × (told-rows ≡ rowsAfter (a .verdict) (a .info .slots) (a .slots) rows)
+    → FrameDone lent stated d rows q (numbersOf n a) left numbers told-rows
 unfolding frameTold
 frame-done {lent} {left} {rows} {told-rows} {stated} {d} {numbers} {p} {q} {a} {n} e r w =
-    subst (λ (x : Step). FrameDone lent stated d rows x (record { refusal = n; length = a .length; reservoir = a .reservoir .length }) left numbers told-rows)
-    (sym e)
+    subst (λ (x : Step). FrameDone lent stated d rows x (numbersOf n a) left numbers told-rows) (sym e)
     (record {
-      answer = λ j. record { refusal = (w .0 ∙ ap numberTold (r .verdict)) j; length = r .length-is j; reservoir = r .reservoir j .length };
+      answer = λ j. record {
+        refusal = (w .0 ∙ ap numberTold (r .verdict)) j;
+        length = r .length-is j;
+        «main_data_begin» = r .info j .«main_data_begin»;
+        reservoir = r .reservoir j .length;
+      };
       bytes = r .bytes;
       numbers-are = r .numbers-are;
-      rows-are = w .1 ∙ (λ j. rowsAfter (r .verdict j) (r .slots j) rows);
+      rows-are = w .1 ∙ (λ j. rowsAfter (r .verdict j) (r .info j .slots) (r .slots j) rows);
     })

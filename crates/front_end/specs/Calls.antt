@@ -14,7 +14,7 @@ use Rattle.standard.specs.Refusals.{numberOf}
 use Rattle.standard.specs.declared.Verdict.{Verdict}
 use Rattle.standard.specs.declared.Verdict.the-variants.{Accepted, Refused}
 use Rattle.standard.specs.Header.{hz, bps, headerOf, headerSize, sideSize, mainSize, frameLength, granules, channelCount}
-use Rattle.standard.specs.SideInfo.{sideOf}
+use Rattle.standard.specs.SideInfo.{sideOf, noSide}
 use Rattle.standard.specs.Slots.{Outcome, slotsTold, numbersFrom, readSlots}
 use Rattle.standard.specs.Reservoir.{reservoirAfter, bytesAfter}
 use Rattle.standard.specs.Frame.{Step, noStep, frameCall}
@@ -23,8 +23,10 @@ use Rattle.standard.specs.Record.{pastRecord}
 use Rattle.standard.specs.declared.FrameHeader.{FrameHeader}
 use Rattle.standard.specs.declared.SideInfo.{SideInfo}
 use Rattle.standard.specs.declared.Refusal.the-variants.{UnfitMemory, MadeUpRecord}
+use Rattle.fields.specs.Values.{scaleValues}
 use Rattle.front_end.specs.declared.Sizes.{Sizes}
 use Rattle.front_end.specs.declared.FrameTold.{FrameTold}
+use Rattle.standard.specs.declared.SlotRecord.{SlotRecord}
 use Rattle.standard.specs.declared.SlotAnswer.{SlotAnswer}
 use Rattle.standard.specs.declared.SlotOutcome.{SlotOutcome}
 use Rattle.standard.specs.declared.SlotOutcome.the-variants.{Read, NotRead, Lacking}
@@ -34,7 +36,14 @@ abbrev pub numberTold : Verdict → ℕ
 numberTold (Refused r) = numberOf r
 numberTold Accepted = 0
 
--- ---- a slot's row of 63 numbers: what became of it, its count, its 22 long factors and its 39 short ones
+-- ---- a slot's row: what became of it, its count, its 22 long factors and its 39 short ones, and 7 that its numbers are scaled by
+abbrev pub perRow : ℕ
+perRow = 70
+
+-- and the rows of a frame's four slots
+abbrev pub perRows : ℕ
+perRows = 280
+
 -- 255 for a slot that the frame lacks, which no refusal has either
 abbrev pub saidNumber : SlotOutcome → ℕ
 saidNumber Lacking = 255
@@ -46,29 +55,31 @@ saidCount Lacking = 0
 saidCount (NotRead k) = 0
 saidCount (Read n) = n
 
-unfoldable pub slotRow : SlotAnswer → List ℕ
-slotRow t = saidNumber (t .outcome) ∷ saidCount (t .outcome) ∷ (t .long ++ t .short)
+unfoldable pub slotRow : SlotRecord → SlotAnswer → List ℕ
+slotRow r t = saidNumber (t .outcome) ∷ saidCount (t .outcome) ∷ (t .long ++ (t .short ++ scaleValues r))
 
 -- the lent rows after slots in turn, from a place on
-unfoldable pub rowsFrom : ℕ → List SlotAnswer → List ℕ → List ℕ
-rowsFrom at [] d = d
-rowsFrom at (t ∷ ts) d = rowsFrom (at + 63) ts (paste d at (slotRow t) 63)
+unfoldable pub rowsFrom : ℕ → List SlotRecord → List SlotAnswer → List ℕ → List ℕ
+rowsFrom at [] ts d = d
+rowsFrom at (r ∷ rs) [] d = d
+rowsFrom at (r ∷ rs) (t ∷ ts) d = rowsFrom (at + perRow) rs ts (paste d at (slotRow r t) perRow)
 
 -- only where the call is accepted
-unfoldable pub rowsAfter : Verdict → List SlotAnswer → List ℕ → List ℕ
-rowsAfter (Refused r) ts d = d
-rowsAfter Accepted ts d = rowsFrom 0 ts d
+unfoldable pub rowsAfter : Verdict → List SlotRecord → List SlotAnswer → List ℕ → List ℕ
+rowsAfter (Refused k) rs ts d = d
+rowsAfter Accepted rs ts d = rowsFrom 0 rs ts d
 
 -- ---- a frame
 -- with `room` numbers lent for the rows: too few are refused as any other memory
 unfoldable pub frameStep : List ℕ → List ℕ → ℕ → ℕ → ℕ → Step
-frameStep s lent stated d room = pick (ltb room 252) (noStep UnfitMemory) (frameCall s lent stated d)
+frameStep s lent stated d room = pick (ltb room perRows) (noStep UnfitMemory) (frameCall s lent stated d)
 
 unfoldable pub frameTold : ℕ → Step → FrameTold
 frameTold stated p =
     record {
       refusal = numberTold (p .verdict);
       length = p .length;
+      «main_data_begin» = p .info .«main_data_begin»;
       reservoir = reservoirAfter (record { length = stated }) (p .kept) .length;
     }
 
@@ -78,7 +89,7 @@ pub record FrameDone (lent : List ℕ) (stated : ℕ) (d : List ℤ) (rows : Lis
   pub answer : r ≡ frameTold stated p
   pub bytes : left ≡ bytesAfter lent (p .kept)
   pub numbers-are : numbers ≡ numbersFrom 0 (p .slots) d
-  pub rows-are : told-rows ≡ rowsAfter (p .verdict) (slotsTold (p .slots)) rows
+  pub rows-are : told-rows ≡ rowsAfter (p .verdict) (p .info .slots) (slotsTold (p .slots)) rows
 
 -- ---- calls on a frame's header and side information, which come first in its bytes
 -- what follows a reading, and nothing after a refusal
@@ -89,16 +100,21 @@ following (told a) f = f a
 unfoldable pub under : {B : Type 0} → List ℕ → (FrameHeader → SideInfo → Told B) → Told B
 under s f = following (headerOf s) (λ (h : FrameHeader). following (sideOf h s) (f h))
 
+-- the records of a frame's slots
+unfoldable pub recordsIn : List ℕ → List SlotRecord
+recordsIn s = toldOr noSide (under s (λ (h : FrameHeader) (i : SideInfo). told i)) .slots
+
 -- the slots of a frame from given main data
 unfoldable pub slotsStep : List ℕ → List ℕ → ℕ → ℕ → Told (List Outcome)
 slotsStep s main d room =
-    pick (ltb room 252 || ltb d perFrame) (refused UnfitMemory)
+    pick (ltb room perRows || ltb d perFrame) (refused UnfitMemory)
     (under s (λ (h : FrameHeader) (i : SideInfo). readSlots h i main d))
 
-pub record SlotsDone (d : List ℤ) (rows : List ℕ) (t : Told (List Outcome)) (r : ℕ) (numbers : List ℤ) (told-rows : List ℕ) : Type 0 where
+pub record SlotsDone (d : List ℤ) (rows : List ℕ) (rs : List SlotRecord) (t : Told (List Outcome)) (r : ℕ) (numbers : List ℤ)
+    (told-rows : List ℕ) : Type 0 where
   pub answer : r ≡ numberTold (verdictOf t)
   pub numbers-are : numbers ≡ numbersFrom 0 (toldOr [] t) d
-  pub rows-are : told-rows ≡ rowsAfter (verdictOf t) (slotsTold (toldOr [] t)) rows
+  pub rows-are : told-rows ≡ rowsAfter (verdictOf t) rs (slotsTold (toldOr [] t)) rows
 
 -- the reorder of a slot's numbers by the frame's own record of the n-th slot: the frame must have such a slot
 unfoldable pub reorderBy : FrameHeader → SideInfo → ℕ → List ℤ → Told (List ℤ)

@@ -1,5 +1,6 @@
 // The front end for C and Rust: exported calls on numbers and on slices of numbers. Each is total, and what it answers is laid out in
 // specs/Calls.antt. A frame's bytes are always handed in from the first byte of its header on.
+use crate::rows::ROWS;
 use crate::rows::tell;
 use crate::rows::verdict_number;
 use derived::bps;
@@ -31,18 +32,17 @@ ghost use Rattle.standard.specs.Sizes.{perFrame, perSlot};
 ghost use Rattle.standard.specs.Told.{told};
 ghost use Rattle.standard.specs.Header.{headerOf};
 ghost use Rattle.standard.specs.Reservoir.{«emptied»};
-ghost use Rattle.front_end.specs.Calls.{FrameDone, frameStep, SlotsDone, slotsStep, ReorderDone, reorderStep, sizesTold};
+ghost use Rattle.front_end.specs.Calls.{perRows, FrameDone, frameStep, SlotsDone, slotsStep, recordsIn, ReorderDone, reorderStep, sizesTold};
 
 mod rows;
 
-// Numbers a reader lends for the rows of four slots, at least.
-const ROWS: usize = 252;
-
-// What a frame answers: 0 or the number of the refusal, the frame's length, and the reservoir's length for the next frame.
+// What a frame answers: 0 or the number of the refusal, the frame's length, how many bytes its main data begins before its own, and the reservoir's
+// length for the next frame.
 #[repr(C)]
 pub struct FrameTold {
     pub refusal: u8,
     pub length: usize,
+    pub main_data_begin: usize,
     pub reservoir: usize,
 }
 
@@ -78,6 +78,7 @@ pub extern "C" fn front_end_frame(
         return FrameTold {
             refusal: number_of(Refusal::UnfitMemory),
             length: 0,
+            main_data_begin: 0,
             reservoir,
         };
     }
@@ -85,9 +86,13 @@ pub extern "C" fn front_end_frame(
     let verdict = a.verdict;
     let slots = a.slots;
     let kept = a.reservoir;
+    let info = a.info;
+    let records = info.slots;
+    let begin = info.main_data_begin as usize;
     FrameTold {
-        refusal: tell(verdict, slots, rows),
+        refusal: tell(verdict, records, slots, rows),
         length: a.length,
+        main_data_begin: begin,
         reservoir: kept.length,
     }
 }
@@ -100,8 +105,8 @@ fn slots_under(
     numbers: &mut [i32],
     rows: &mut [u16],
 ) -> u8
-    requires { ⌜ (252 ≤ length (now rows)) × (perFrame ≤ length (now numbers)) × (headerOf (now frame) ≡ told h) ⌝ }
-    ensures { λ r. ⌜ SlotsDone (now (numbers .entry)) (now (rows .entry))
+    requires { ⌜ (perRows ≤ length (now rows)) × (perFrame ≤ length (now numbers)) × (headerOf (now frame) ≡ told h) ⌝ }
+    ensures { λ r. ⌜ SlotsDone (now (numbers .entry)) (now (rows .entry)) (recordsIn (now (frame .entry)))
         (slotsStep (now (frame .entry)) (now (main .entry)) (length (now (numbers .entry))) (length (now (rows .entry)))) r (now (numbers .exit))
         (now (rows .exit)) ⌝ }
 {
@@ -114,7 +119,8 @@ fn slots_under(
     let s = read_slots(h, i, main, numbers);
     let said = s.verdict;
     let slots = s.slots;
-    tell(said, slots, rows)
+    let records = i.slots;
+    tell(said, records, slots, rows)
 }
 
 // The slots of a frame from given main data of any length; of the frame only the header and the side information are read.
@@ -125,7 +131,7 @@ pub extern "C" fn front_end_slots(
     numbers: &mut [i32],
     rows: &mut [u16],
 ) -> u8
-    ensures { λ r. ⌜ SlotsDone (now (numbers .entry)) (now (rows .entry))
+    ensures { λ r. ⌜ SlotsDone (now (numbers .entry)) (now (rows .entry)) (recordsIn (now (frame .entry)))
         (slotsStep (now (frame .entry)) (now (main .entry)) (length (now (numbers .entry))) (length (now (rows .entry)))) r (now (numbers .exit))
         (now (rows .exit)) ⌝ }
 {

@@ -1,17 +1,28 @@
-// The rows of numbers that tell of slots: for each slot what became of it, its count, and its factors.
+// The rows of numbers that tell of slots: for each slot what became of it, its count, its factors, and what its numbers are scaled by.
 use derived::number_of;
+use fields::scale_values;
 use standard::SlotAnswer;
 use standard::SlotOutcome;
+use standard::SlotRecord;
 use standard::Verdict;
 ghost use mathlib.Core.Path.{_≡_};
 ghost use mathlib.Core.List.{map};
 ghost use Prim.Native.Nat.{_+_, _≤_};
 ghost use lib.ListN.{length};
 ghost use lib.Seq.{paste};
-ghost use Rattle.front_end.specs.Calls.{numberTold, saidNumber, saidCount, slotRow, rowsFrom, rowsAfter};
+ghost use Rattle.front_end.specs.Calls.{perRow, perRows, numberTold, saidNumber, saidCount, slotRow, rowsFrom, rowsAfter};
 
-// Numbers in a row.
-const ROW: usize = 63;
+// Where in a row the long factors begin, 22 numbers; the short ones, 39; and what the slot's numbers are scaled by, 7.
+const LONG_AT: usize = 2;
+
+const SHORT_AT: usize = LONG_AT + 22;
+
+const SCALE_AT: usize = SHORT_AT + 39;
+
+// Numbers in a row, and in the rows of four slots, which a reader lends at least.
+const ROW: usize = SCALE_AT + 7;
+
+pub(crate) const ROWS: usize = 4 * ROW;
 
 // Says that the frame has no such slot; no refusal has this number.
 const LACKING: u16 = 255;
@@ -37,20 +48,20 @@ fn said_of(o: SlotOutcome) -> Said
     }
 }
 
-fn put_factors(rows: &mut [u16], at: usize, factors: &[u8])
-    requires { ⌜ at + length (now factors) ≤ length (now rows) ⌝ }
-    ensures { λ _. ⌜ now (rows .exit) ≡ paste (now (rows .entry)) at (now (factors .entry)) (length (now (factors .entry))) ⌝ }
+fn put_bytes(rows: &mut [u16], at: usize, bytes: &[u8])
+    requires { ⌜ at + length (now bytes) ≤ length (now rows) ⌝ }
+    ensures { λ _. ⌜ now (rows .exit) ≡ paste (now (rows .entry)) at (now (bytes .entry)) (length (now (bytes .entry))) ⌝ }
 {
     let mut i = 0usize;
-    while i < factors.len() {
-        rows[at + i] = factors[i] as u16;
+    while i < bytes.len() {
+        rows[at + i] = bytes[i] as u16;
         i += 1;
     }
 }
 
-fn put_row(rows: &mut [u16], at: usize, a: SlotAnswer)
-    requires { ⌜ at + 63 ≤ length (now rows) ⌝ }
-    ensures { λ _. ⌜ now (rows .exit) ≡ paste (now (rows .entry)) at (slotRow a) 63 ⌝ }
+fn put_row(rows: &mut [u16], at: usize, r: SlotRecord, a: SlotAnswer)
+    requires { ⌜ at + perRow ≤ length (now rows) ⌝ }
+    ensures { λ _. ⌜ now (rows .exit) ≡ paste (now (rows .entry)) at (slotRow r a) perRow ⌝ }
 {
     let outcome = a.outcome;
     let long = a.long;
@@ -58,31 +69,39 @@ fn put_row(rows: &mut [u16], at: usize, a: SlotAnswer)
     let said = said_of(outcome);
     rows[at] = said.number;
     rows[at + 1] = said.count;
-    put_factors(&mut *rows, at + 2, &long);
-    put_factors(&mut *rows, at + 24, &short);
+    put_bytes(&mut *rows, at + LONG_AT, &long);
+    put_bytes(&mut *rows, at + SHORT_AT, &short);
+    let scale = scale_values(r);
+    put_bytes(&mut *rows, at + SCALE_AT, &scale);
 }
 
-fn put_rows(rows: &mut [u16], slots: [SlotAnswer; 4])
-    requires { ⌜ 252 ≤ length (now rows) ⌝ }
-    ensures { λ _. ⌜ now (rows .exit) ≡ rowsFrom 0 slots (now (rows .entry)) ⌝ }
+fn put_rows(rows: &mut [u16], records: [SlotRecord; 4], slots: [SlotAnswer; 4])
+    requires { ⌜ perRows ≤ length (now rows) ⌝ }
+    ensures { λ _. ⌜ now (rows .exit) ≡ rowsFrom 0 records slots (now (rows .entry)) ⌝ }
 {
     let mut k = 0usize;
     while k < 4 {
+        let r = records[k];
         let a = slots[k];
-        put_row(&mut *rows, ROW * k, a);
+        put_row(&mut *rows, ROW * k, r, a);
         k += 1;
     }
 }
 
 // A verdict in numbers; the rows of an accepted call are written.
-pub(crate) fn tell(verdict: Verdict, slots: [SlotAnswer; 4], rows: &mut [u16]) -> u8
-    requires { ⌜ 252 ≤ length (now rows) ⌝ }
-    ensures { λ r. ⌜ (r ≡ numberTold verdict) × (now (rows .exit) ≡ rowsAfter verdict slots (now (rows .entry))) ⌝ }
+pub(crate) fn tell(
+    verdict: Verdict,
+    records: [SlotRecord; 4],
+    slots: [SlotAnswer; 4],
+    rows: &mut [u16],
+) -> u8
+    requires { ⌜ perRows ≤ length (now rows) ⌝ }
+    ensures { λ r. ⌜ (r ≡ numberTold verdict) × (now (rows .exit) ≡ rowsAfter verdict records slots (now (rows .entry))) ⌝ }
 {
     match verdict {
         Verdict::Refused(why) => number_of(why),
         Verdict::Accepted => {
-            put_rows(rows, slots);
+            put_rows(rows, records, slots);
             0
         }
     }

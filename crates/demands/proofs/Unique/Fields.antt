@@ -6,6 +6,8 @@ use Rattle.fields.proofs.side_values.Reads as side-values
 use Rattle.fields.proofs.side_values.Kinds as side-values-kinds
 use Rattle.fields.proofs.record_values.Reads as record-values
 use Rattle.fields.proofs.record_values.Kinds as record-values-kinds
+use Rattle.fields.proofs.scale_values.Reads as scale-values
+use Rattle.fields.proofs.scale_values.Kinds as scale-values-kinds
 use Rattle.fields.proofs.is_told.Reads as is-told
 use Rattle.fields.proofs.is_told.Kinds as is-told-kinds
 use Rattle.fields.proofs.step.Reads as step
@@ -19,6 +21,9 @@ side-values-unique κs a x y s t p q = alike p q
 
 pub record-values-unique : OneAnswer record-values-kinds.ps record-values-kinds.r record-values.Post
 record-values-unique κs a x y s t p q = alike p q
+
+pub scale-values-unique : OneAnswer scale-values-kinds.ps scale-values-kinds.r scale-values.Post
+scale-values-unique κs a x y s t p q = alike p q
 
 pub is-told-unique : OneAnswer is-told-kinds.ps is-told-kinds.r is-told.Post
 is-told-unique κs a x y s t p q = alike p q

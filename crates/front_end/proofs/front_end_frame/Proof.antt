@@ -19,6 +19,9 @@ returns c = frame-few (room-few _ _ _ _ _ (c .before .if1 .taken)) (c .number-of
 process-frame-requires : tie.Need-process-frame-requires
 process-frame-requires c κs = search needs
 
+cast-begin : tie.Need-cast-begin
+cast-begin c = search needs
+
 tell-requires : tie.Need-tell-requires
 tell-requires c κs = search needs
 
@@ -33,8 +36,8 @@ same-length-3 c = search needs
 
 returns-2 : tie.Need-returns-2
 returns-2 c =
-    frame-done (room-fits _ _ _ _ _ (c .before .before .before .before .before .before .before .before .before .before .before .before .if1 .left))
-    (c .before .before .before .before .before .before .before .before .before .process-frame .ensures) (c .before .before .tell .ensures)
+    let o = c .before .before .before .before .before .before .before .before .before .before .before .before in
+    frame-done (room-fits _ _ _ _ _ (o .before .before .before .if1 .left)) (o .process-frame .ensures) (c .before .before .tell .ensures)
 
 pub front-end-frame-spec : {M : Type 1} → statement M
 front-end-frame-spec =
@@ -43,6 +46,7 @@ front-end-frame-spec =
     number-of-requires
     returns
     process-frame-requires
+    cast-begin
     tell-requires
     same-length
     same-length-2

@@ -4,7 +4,7 @@ use denote.Ref.{now}
 use borrow.Author.Tests.{le-ltb}
 use Rattle.standard.specs.ToldLaws.{neither}
 use Rattle.standard.specs.RefusalsLaws.{answered-told, answered-refused}
-use Rattle.front_end.proofs.Laws.{under-no-side, under-both, slots-refused, slots-done, slots-fit}
+use Rattle.front_end.proofs.Laws.{under-no-side, under-both, records-in, slots-refused, slots-done, slots-fit}
 use borrow.Author.Needs.{needs}
 use Rattle.front_end.proofs.slots_under.Statement.{statement}
 use Rattle.front_end.proofs.slots_under.Tie as tie
@@ -51,14 +51,15 @@ same-length-2 c = search needs
 
 returns-2 : tie.Need-returns-2
 returns-2 c =
-    let o = c .before .before .before .before .before .before .before .before .before .before .before .before .before .before .before in
+    let m = c .before .before .before .before .before .before .before .before .before in
+    let o = m .before .before .before .before .before .before .before in
     let a = o .args in
+    let side = answered-told (m .before .before .before .read-side-info .ensures) (m .enum-told .given .1) in
     slots-done
+    (records-in (now (a .frame)) (o .pre .2) side)
     (slots-fit (now (a .frame)) (now (a .main)) _ _ (neither (le-ltb _ _ (o .pre .0)) (le-ltb _ _ (o .pre .1)))
-    ∙ under-both _ _ (o .pre .2)
-    (answered-told (c .before .before .before .before .before .before .before .before .before .before .before .read-side-info .ensures)
-    (c .before .before .before .before .before .before .before .before .enum-told .given .1)))
-    (c .before .before .before .before .before .before .read-slots .ensures) (c .before .before .tell .ensures)
+    ∙ under-both _ _ (o .pre .2) side)
+    (c .before .before .before .before .before .before .before .read-slots .ensures) (c .before .before .tell .ensures)
 
 pub slots-under-spec : {M : Type 1} → statement M
 slots-under-spec =

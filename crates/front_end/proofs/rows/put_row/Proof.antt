@@ -1,92 +1,107 @@
--- `put_row` meets its contract: the four pieces are the row. Assumes nothing.
+-- `put_row` meets its contract: the five pieces are the row. Assumes nothing.
 use mathlib.Core.Path.{sym, ap, _∙_}
 use native.Mathlib.Omega.{arith}
+use denote.Ref.{now}
 use lib.ListN.{length, length-set}
 use lib.Seq.{paste}
 use mathlib.Core.List.{List}
 use Prim.Native.Nat.{ℕ, _+_}
-use Rattle.front_end.proofs.Laws.{same-after, same-row, row-put}
+use Rattle.front_end.proofs.Laws.{after-long, after-short, after-scale, row-put}
 use borrow.Author.Needs.{needs}
 use Rattle.front_end.proofs.rows.put_row.Statement.{statement}
 use Rattle.front_end.proofs.rows.put_row.Tie as tie
 use Rattle.front_end.proofs.rows.put_row.Reads as reads
 use Rattle.front_end.proofs.rows.put_row.Lts as lts
-use Rattle.front_end.proofs.rows.put_factors.Reads as put-factors-reads
+use Rattle.front_end.proofs.rows.put_bytes.Reads as put-bytes-reads
+use Rattle.fields.proofs.scale_values.Reads as scale-values-reads
 use Rattle.front_end.proofs.rows.said_of.Reads as said-of-reads
 
--- src/rows.rt:59:9
 said-of-requires : tie.Need-said-of-requires
 said-of-requires c κs = search needs
 
--- src/rows.rt:60:5
 mul-rows : tie.Need-mul-rows
 mul-rows c = search needs
 
--- src/rows.rt:60:5
 slice-write-rows : tie.Need-slice-write-rows
 slice-write-rows c = search needs
 
--- src/rows.rt:61:10
 add-rows : tie.Need-add-rows
 add-rows c = search needs
 
--- src/rows.rt:61:5
 mul-rows-2 : tie.Need-mul-rows-2
 mul-rows-2 c = search needs
 
--- src/rows.rt:61:5
 slice-write-rows-2 : tie.Need-slice-write-rows-2
 slice-write-rows-2 c = simp length-set (omega arith)
 
--- src/rows.rt:62:29
-add-put-factors : tie.Need-add-put-factors
-add-put-factors c = search needs
+add-put-bytes : tie.Need-add-put-bytes
+add-put-bytes c = search needs
 
--- src/rows.rt:62:37
-slice-aggregate-put-factors : tie.Need-slice-aggregate-put-factors
-slice-aggregate-put-factors c = search needs
+slice-aggregate-put-bytes : tie.Need-slice-aggregate-put-bytes
+slice-aggregate-put-bytes c = search needs
 
--- src/rows.rt:62:5
-put-factors-requires : tie.Need-put-factors-requires
-put-factors-requires c κs =
-    simp (length-set, length-set) (omega (arith, slice-aggregate-put-factors c))
+put-bytes-requires : tie.Need-put-bytes-requires
+put-bytes-requires c κs =
+    simp (length-set, length-set) (omega (arith, slice-aggregate-put-bytes c))
 
--- src/rows.rt:63:29
-add-put-factors-2 : tie.Need-add-put-factors-2
-add-put-factors-2 c = search needs
+add-put-bytes-2 : tie.Need-add-put-bytes-2
+add-put-bytes-2 c = search needs
 
--- src/rows.rt:63:38
-slice-aggregate-put-factors-2 : tie.Need-slice-aggregate-put-factors-2
-slice-aggregate-put-factors-2 c = search needs
+slice-aggregate-put-bytes-2 : tie.Need-slice-aggregate-put-bytes-2
+slice-aggregate-put-bytes-2 c = search needs
 
--- src/rows.rt:63:5
-put-factors-requires-2 : tie.Need-put-factors-requires-2
-put-factors-requires-2 c κs =
+put-bytes-requires-2 : tie.Need-put-bytes-requires-2
+put-bytes-requires-2 c κs =
     let o = c .before .before .before .before .before in
-    let a = o .before .before .before .before .before .before .args in
-    let kept = same-after (a .rows .now) (a .at) _ _ (a .a .long) (sym (slice-aggregate-put-factors o))
-    (o .before .before .before .before .before .before .pre) (c .before .before .before .before .put-factors .ensures) in
-    omega (arith, slice-aggregate-put-factors-2 c, kept, o .before .before .before .before .before .before .pre)
+    let i = o .before .before .before .before .before .before in
+    let kept = after-long (now (i .args .rows)) (i .args .at) _ _ (i .pre) (i .args .a .long) (sym (slice-aggregate-put-bytes o))
+    (c .before .before .before .before .put-bytes .ensures) in
+    omega (arith, slice-aggregate-put-bytes-2 c, kept, i .pre)
 
--- src/rows.rt:52:1
+scale-values-requires : tie.Need-scale-values-requires
+scale-values-requires c κs = search needs
+
+add-put-bytes-3 : tie.Need-add-put-bytes-3
+add-put-bytes-3 c = search needs
+
+slice-aggregate-put-bytes-3 : tie.Need-slice-aggregate-put-bytes-3
+slice-aggregate-put-bytes-3 c = search needs
+
+put-bytes-requires-3 : tie.Need-put-bytes-requires-3
+put-bytes-requires-3 c κs =
+    let e = c .before .before .before .before .before .before in
+    let o = e .before .before .before .before .before in
+    let i = o .before .before .before .before .before .before in
+    let kept = after-short (now (i .args .rows)) (i .args .at) _ _ (i .pre) (i .args .a .long) (sym (slice-aggregate-put-bytes o))
+    (e .before .before .before .before .put-bytes .ensures) (i .args .a .short) (sym (slice-aggregate-put-bytes-2 e))
+    (c .before .before .before .before .before .put-bytes2 .ensures) in
+    omega (arith, slice-aggregate-put-bytes-3 c, kept, i .pre)
+
 same-length : tie.Need-same-length
 same-length c =
-    let e = c .before .before .before in
+    let v = c .before .before .before in
+    let e = v .before .before .before .before .before .before in
     let o = e .before .before .before .before .before in
-    let a = o .before .before .before .before .before .before .args in
-    same-row (a .rows .now) (a .at) _ _ (a .a .long) (sym (slice-aggregate-put-factors o)) (o .before .before .before .before .before .before .pre)
-    (a .a .short) (sym (slice-aggregate-put-factors-2 e)) (e .before .before .before .before .put-factors .ensures) (c .before .before .put-factors2 .ensures)
+    let i = o .before .before .before .before .before .before in
+    after-scale (now (i .args .rows)) (i .args .at) _ _ (i .pre) (i .args .a .long) (sym (slice-aggregate-put-bytes o))
+    (e .before .before .before .before .put-bytes .ensures) (i .args .a .short) (sym (slice-aggregate-put-bytes-2 e))
+    (v .before .before .before .before .before .put-bytes2 .ensures)
+    (v .before .before .scale-values .result) (sym (slice-aggregate-put-bytes-3 v)) (c .before .before .put-bytes3 .ensures)
 
--- src/rows.rt:52:1
 returns : tie.Need-returns
 returns c =
-    let e = c .before .before .before in
+    let v = c .before .before .before in
+    let e = v .before .before .before .before .before .before in
     let o = e .before .before .before .before .before in
-    let a = o .before .before .before .before .before .before .args in
-    c .before .before .put-factors2 .ensures
-    ∙ ap (λ (x : List ℕ). paste x (a .at + 24) (a .a .short) (length (a .a .short))) (e .before .before .before .before .put-factors .ensures)
-    ∙ row-put (a .rows .now) (a .at) (a .a) (sym (slice-aggregate-put-factors o)) (sym (slice-aggregate-put-factors-2 e))
-    (o .before .before .before .before .before .before .pre) (o .before .before .said-of .ensures .0) (o .before .before .said-of .ensures .1)
+    let i = o .before .before .before .before .before .before in
+    let at = i .args .at in
+    let scale = v .before .before .scale-values .result in
+    c .before .before .put-bytes3 .ensures
+    ∙ ap (λ (x : List ℕ). paste x (at + 63) scale (length scale)) (v .before .before .before .before .before .put-bytes2 .ensures)
+    ∙ ap (λ (x : List ℕ). paste (paste x (at + 24) (i .args .a .short) (length (i .args .a .short))) (at + 63) scale (length scale))
+    (e .before .before .before .before .put-bytes .ensures)
+    ∙ row-put (now (i .args .rows)) at (i .args .r) (i .args .a) (sym (slice-aggregate-put-bytes o)) (sym (slice-aggregate-put-bytes-2 e)) (i .pre)
+    (o .before .before .said-of .ensures .0) (o .before .before .said-of .ensures .1) (v .before .before .scale-values .ensures)
 
 pub put-row-spec : {M : Type 1} → statement M
 put-row-spec =
@@ -98,11 +113,15 @@ put-row-spec =
     add-rows
     mul-rows-2
     slice-write-rows-2
-    add-put-factors
-    slice-aggregate-put-factors
-    put-factors-requires
-    add-put-factors-2
-    slice-aggregate-put-factors-2
-    put-factors-requires-2
+    add-put-bytes
+    slice-aggregate-put-bytes
+    put-bytes-requires
+    add-put-bytes-2
+    slice-aggregate-put-bytes-2
+    put-bytes-requires-2
+    scale-values-requires
+    add-put-bytes-3
+    slice-aggregate-put-bytes-3
+    put-bytes-requires-3
     same-length
     returns)

@@ -30,7 +30,7 @@ returns c =
     let a = c .before .before .before .before .before .args in
     let given = c .before .before .verdict .given .1 in (
       c .number-of .ensures ∙ sym (ap (λ (x : Verdict). numberTold x) given),
-      sym (ap (λ (x : Verdict). rowsAfter x (a .slots) (now (a .rows))) given),
+      sym (ap (λ (x : Verdict). rowsAfter x (a .records) (a .slots) (now (a .rows))) given),
     )
 
 same-length : tie.Need-same-length
@@ -42,7 +42,7 @@ returns-2 c =
     let a = c .before .before .before .before .before .before .before .args in
     let given = c .before .before .before .before .enum-told .given .1 in (
       sym (ap (λ (x : Verdict). numberTold x) given),
-      c .before .before .put-rows .ensures ∙ sym (ap (λ (x : Verdict). rowsAfter x (a .slots) (now (a .rows))) given),
+      c .before .before .put-rows .ensures ∙ sym (ap (λ (x : Verdict). rowsAfter x (a .records) (a .slots) (now (a .rows))) given),
     )
 
 pub tell-spec : {M : Type 1} → statement M

@@ -1,4 +1,4 @@
--- `put_factors` meets its contract. The loop's invariant: i factors are copied. Assumes nothing.
+-- `put_bytes` meets its contract. The loop's invariant: i bytes are copied. Assumes nothing.
 use mathlib.Core.Path.{refl}
 use Prim.Native.Nat.{_-_, _≤_}
 use native.Mathlib.Omega.{arith}
@@ -6,16 +6,16 @@ use borrow.Author.Needs.{needs}
 use denote.Ref.{now}
 use lib.ListN.{length}
 use Rattle.standard.specs.CopyLaws.{Copying, copying-begin, copying-turn, copying-end}
-use Rattle.front_end.proofs.rows.put_factors.Statement.{statement}
-use Rattle.front_end.proofs.rows.put_factors.Tie as tie
-use Rattle.front_end.proofs.rows.put_factors.Reads as reads
-use Rattle.front_end.proofs.rows.put_factors.Lts as lts
+use Rattle.front_end.proofs.rows.put_bytes.Statement.{statement}
+use Rattle.front_end.proofs.rows.put_bytes.Tie as tie
+use Rattle.front_end.proofs.rows.put_bytes.Reads as reads
+use Rattle.front_end.proofs.rows.put_bytes.Lts as lts
 
 abbrev Inv-loop : tie.InvT-loop
-Inv-loop rows₀ at factors i₀ rows i = (i ≤ length factors) × Copying factors rows₀ rows at i
+Inv-loop rows₀ at bytes i₀ rows i = (i ≤ length bytes) × Copying bytes rows₀ rows at i
 
 abbrev μ-loop : tie.MeasureT-loop
-μ-loop rows₀ at factors i₀ rows i = length factors - i
+μ-loop rows₀ at bytes i₀ rows i = length bytes - i
 
 loop-holds : tie.Need-loop-holds Inv-loop μ-loop
 loop-holds c = (omega arith, copying-begin _ _ _)
@@ -49,10 +49,10 @@ same-length : tie.Need-same-length Inv-loop μ-loop
 same-length c = c .before .loop .inv .1 .long
 
 returns : tie.Need-returns Inv-loop μ-loop
-returns c = copying-end _ _ _ _ _ (c .before .loop .inv .1) (length (now (c .before .before .args .factors))) (omega arith)
+returns c = copying-end _ _ _ _ _ (c .before .loop .inv .1) (length (now (c .before .before .args .bytes))) (omega arith)
 
-pub put-factors-spec : {M : Type 1} → statement M
-put-factors-spec =
+pub put-bytes-spec : {M : Type 1} → statement M
+put-bytes-spec =
     tie.close
     (tie.spec
     Inv-loop
