@@ -16,7 +16,6 @@ use Rattle.standard.specs.Record.{compressWidth, trio, isPreflag, isHead, isRec
 use Rattle.standard.specs.SideInfo.{isAbsent, noShares, fitSlots, areShares, areSlots, isSideBy}
 use Rattle.standard.specs.declared.SlotRecord.{SlotRecord}
 use Rattle.standard.specs.declared.SideInfo.{SideInfo}
-use Rattle.standard.specs.declared.BlockType.the-variants.{Long}
 use Rattle.record_check.specs.declared.layout.Layout.{Layout}
 use Rattle.record_check.specs.Layouts.{layoutOf}
 use Rattle.record_check.proofs.Widths.{width, mask}
