@@ -4,8 +4,9 @@ no rule fits, Unexplained is raised."""
 # The Rust's errors that are refusals of ours.
 HEADER = {
     'Frame sync not found': 3, 'Invalid MPEG version': 4, 'Invalid MPEG layer': 5, 'Only MPEG Layer III is supported': 6,
-    'Free bitrate is unsupported': 7, 'Invalid bitrate': 8, 'Invalid emphasis': 9, 'input ended': 2,
+    'Free bitrate is unsupported': 7, 'Invalid emphasis': 9, 'input ended': 2,
 }
+RATE = 'Invalid bitrate'  # said of two faults: of bitrate_index 15, which is 8, and of sampling_frequency 3, which is 15
 SIDE = {'input ended': 2, 'big_values > 288': 10, 'Forbidden block type': 11}
 MIXED = 'assertion failed: !mixed_block || info.block_type == BlockType::Short'
 OVERFLOW = 'attempt to subtract with overflow'
@@ -225,10 +226,13 @@ def entries_of(f, told):
     return entries
 
 
-def failed(lines, left, before):
-    """A try that the Rust fails in before the slots."""
+def failed(lines, left, before, third):
+    """A try that the Rust fails in before the slots. The bytes of a frame are needed from the first on, so the first absent one stands where the card ends."""
     _, place, stage, kind, text = lines[0].split(' ', 4)
-    refused = lambda number: [row('refused', (place, number))]
+    refused = lambda number: [row('refused', (place, number) + ((left,) if number == 2 else ()))]
+    if kind == 'error' and stage == 'header' and text == RATE:
+        need(third // 16 == 15 or third // 4 % 4 == 3, 'a rate that the Rust refuses: third byte %d' % third)
+        return refused(8 if third // 16 == 15 else 15), ()
     if kind == 'error' and stage == 'header' and text in HEADER:
         return refused(HEADER[text]), ()
     if kind == 'error' and stage == 'side' and text in SIDE:
@@ -248,11 +252,12 @@ def failed(lines, left, before):
     return [reach] + lines[2:], (13,)
 
 
-def expected(lines, mended, left, before):
-    """Our lines, and the entries by which the Rust's differ from them. lines: the oracle's of one try; mended: those after `mended`, or None; left: the
-    bytes of the card from the try's place on; before: the reservoir's length before it."""
+def expected(lines, mended, card, place, before):
+    """Our lines, and the entries by which the Rust's differ from them. lines: the oracle's of one try; mended: those after `mended`, or None; card, place:
+    the card's bytes and where in them the try is; before: the reservoir's length before it."""
+    left = len(card) - place
     if lines[0].startswith('failed'):
-        return failed(lines, left, before)
+        return failed(lines, left, before, card[place + 2] if left > 2 else 0)
     f = Frame(mended or lines)
     if not mended and f.failure is None and not any(f.side[1:]) and not any(l.startswith(('alone', 'reordered')) for l in lines):
         need(f.length <= left, 'the Rust reads bytes that are not there')

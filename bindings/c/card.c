@@ -31,7 +31,8 @@ static const char *name_of(unsigned refusal) {
     case FRONT_END_RESERVED_LAYER: return "reserved layer";
     case FRONT_END_OTHER_LAYER: return "Layer I or II";
     case FRONT_END_FREE_BITRATE: return "free bitrate";
-    case FRONT_END_FORBIDDEN_RATE: return "forbidden rate";
+    case FRONT_END_FORBIDDEN_BITRATE: return "forbidden bitrate";
+    case FRONT_END_RESERVED_RATE: return "reserved rate";
     case FRONT_END_RESERVED_EMPHASIS: return "reserved emphasis";
     case FRONT_END_TOO_MANY_PAIRS: return "too many pairs";
     case FRONT_END_FORBIDDEN_BLOCK: return "forbidden block";
@@ -88,7 +89,7 @@ static void print_cut(const uint8_t *frame, size_t n, size_t kept) {
     }
     memcpy(main_data, reservoir + kept - back, back);
     memcpy(main_data + back, frame + before, own);
-    if (front_end_slots(frame, n, main_data, back + own, numbers, FRONT_END_NUMBERS, slots, FRONT_END_ROWS)) return;
+    if (front_end_slots(frame, n, main_data, back + own, numbers, FRONT_END_NUMBERS, slots, FRONT_END_ROWS).refusal) return;
     printf("from the %zu of its %zu bytes of main data that are there:\n", own, sizes.main);
     print_slots(frame, n);
 }
@@ -115,7 +116,9 @@ int main(void) {
             else print_slots(frame, n);
         } else {
             if (!lost) {
-                printf("byte %zu refused %u: %s\n", place, told.refusal, name_of(told.refusal));
+                printf("byte %zu refused %u: %s", place, told.refusal, name_of(told.refusal));
+                if (told.refusal == FRONT_END_ABSENT_BYTES) printf(", the first at byte %zu", place + told.offset);
+                putchar('\n');
                 if (told.refusal == FRONT_END_ABSENT_BYTES) print_cut(frame, n, kept);
             }
             lost++;

@@ -32,7 +32,7 @@ extern "C" {
 #define FRONT_END_NUMBERS 2304   /* numbers of a frame's slots: FRONT_END_SLOTS x FRONT_END_SLOT */
 #define FRONT_END_ROW 70         /* numbers in a slot's row (front_end_slot) */
 #define FRONT_END_ROWS (FRONT_END_SLOTS * FRONT_END_ROW) /* numbers in the rows of a frame */
-#define FRONT_END_STACK 16384    /* bytes of stack that a call needs, at most; measured are 11,088 (bindings/c/stack.c) */
+#define FRONT_END_STACK 16384    /* bytes of stack that a call needs, at most; measured are 11,232 (bindings/c/stack.c) */
 #define FRONT_END_FRAME 1441     /* bytes of the longest frame: so many, if the card has them, are always enough */
 
 /* ---- answers: 0 where a call is accepted, else one of these */
@@ -44,13 +44,14 @@ enum {
     FRONT_END_MADE_UP_RECORD = 14, /* reorder: the frame has no slot of that number */
 
     /* the frame is refused; nothing that was lent has changed, save by 13 */
-    FRONT_END_ABSENT_BYTES = 2,       /* the bytes end within the frame */
+    FRONT_END_ABSENT_BYTES = 2,       /* the bytes end within the frame: `offset` tells the first that was needed and absent */
     FRONT_END_NO_SYNC = 3,            /* the first byte is not FF, or the top three bits of the second are not all set */
     FRONT_END_RESERVED_VERSION = 4,   /* version bits 01 */
     FRONT_END_RESERVED_LAYER = 5,     /* layer bits 00 */
     FRONT_END_OTHER_LAYER = 6,        /* Layer I or II */
     FRONT_END_FREE_BITRATE = 7,       /* bitrate field 0 */
-    FRONT_END_FORBIDDEN_RATE = 8,     /* bitrate field 15, or sampling field 3 */
+    FRONT_END_FORBIDDEN_BITRATE = 8,  /* bitrate field 15 */
+    FRONT_END_RESERVED_RATE = 15,     /* sampling field 3 */
     FRONT_END_RESERVED_EMPHASIS = 9,  /* emphasis 2 */
     FRONT_END_TOO_MANY_PAIRS = 10,    /* big_values above 288 */
     FRONT_END_FORBIDDEN_BLOCK = 11,   /* window switching with block type 0 */
@@ -88,17 +89,25 @@ typedef struct {
 /* The struct has the row's numbers and no others: else this does not compile. */
 typedef char front_end_slot_is_a_row[sizeof(front_end_slot) == FRONT_END_ROW * sizeof(uint16_t) ? 1 : -1];
 
+/* What a call answers. */
+typedef struct {
+    uint8_t refusal; /* 0, or one of the numbers above */
+    size_t offset;   /* after 2: of the first byte that was needed and absent, counted from the frame's first; else 0 */
+} front_end_told;
+
 /* What a frame answers. */
 typedef struct {
-    uint8_t refusal;        /* 0, 1, or 2 to 13 */
+    uint8_t refusal;        /* 0, 1, 2 to 13, or 15 */
+    size_t offset;          /* as in front_end_told */
     size_t length;          /* bytes of the frame, after 0 and 13; else 0 */
     size_t main_data_begin; /* how many bytes before its own its main data begins, 0 to 511, after 0 and 13; else 0 */
     size_t reservoir;       /* the reservoir's length now: hand it in with the next frame, or front_end_emptied() after a gap */
 } front_end_frame_told;
 
-/* What a header says of its frame. Of a refused one, all but `refusal` is 0. */
+/* What a header says of its frame. Of a refused one, all but `refusal` and `offset` is 0. */
 typedef struct {
-    uint8_t refusal;  /* 0, or 2 to 9 */
+    uint8_t refusal;  /* 0, 2 to 9, or 15 */
+    size_t offset;    /* as in front_end_told */
     size_t length;    /* bytes of the frame: header, side information and main data together */
     size_t header;    /* bytes of the header with the CRC, 4 or 6 */
     size_t side;      /* bytes of the side information, 9, 17 or 32 */
@@ -135,17 +144,17 @@ static inline size_t front_end_main_data_begin(const uint8_t *frame, const front
    The main data must begin where the frame's does, front_end_main_data_begin bytes back: the last so many bytes of the reservoir as it
    was before this frame, and then the frame's own main data, as far as it is there. Where the reservoir holds fewer, do not call: from
    other bytes this reads numbers that were never recorded, and nothing can tell.
-   Answers 0, 1, or 2 to 12; numbers and slots as with front_end_frame. A slot whose bits are not all there is refused by 20. */
-uint8_t front_end_slots(const uint8_t *frame, size_t frame_length, const uint8_t *main_data, size_t main_data_length, int32_t *numbers,
-                        size_t numbers_length, front_end_slot *slots, size_t rows_length);
+   Answers 0, 1, 2 to 12, or 15; numbers and slots as with front_end_frame. A slot whose bits are not all there is refused by 20. */
+front_end_told front_end_slots(const uint8_t *frame, size_t frame_length, const uint8_t *main_data, size_t main_data_length, int32_t *numbers,
+                               size_t numbers_length, front_end_slot *slots, size_t rows_length);
 
 /* For a gap on the card: the length of a reservoir of which no byte is meant any more, which is 0. */
 size_t front_end_emptied(void);
 
 /* The reorder of one slot's FRONT_END_SLOT numbers by the frame's own record of the slot: those of a short block, window by window
-   before it, stand frequency by frequency after it; any other slot's stay. Numbers past the 576 stay. Answers 0, 1, 14, or 2 to 12.
+   before it, stand frequency by frequency after it; any other slot's stay. Numbers past the 576 stay. Answers 0, 1, 14, 2 to 12, or 15.
    Not for a slot that was refused: its numbers are not of this frame. */
-uint8_t front_end_reorder(const uint8_t *frame, size_t frame_length, size_t slot, int32_t *numbers, size_t numbers_length);
+front_end_told front_end_reorder(const uint8_t *frame, size_t frame_length, size_t slot, int32_t *numbers, size_t numbers_length);
 
 /* What follows from a frame's header: 4 bytes are enough, 6 where it has a CRC. */
 front_end_frame_sizes front_end_sizes(const uint8_t *frame, size_t frame_length);

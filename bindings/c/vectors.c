@@ -36,7 +36,7 @@ static void frame_call(void) {
     lend();
     front_end_frame_told told = front_end_frame(frame, n, reservoir, sizeof reservoir, kept, numbers, FRONT_END_NUMBERS, slots, FRONT_END_ROWS);
     kept = told.reservoir;
-    printf(" %u %zu %zu %zu", told.refusal, told.length, told.main_data_begin, told.reservoir);
+    printf(" %u %zu %zu %zu %zu", told.refusal, told.offset, told.length, told.main_data_begin, told.reservoir);
     if (!told.refusal) print_slot(slots);
 }
 
@@ -44,9 +44,9 @@ static void slots_call(void) {
     uint8_t frame[LINE], data[LINE];
     size_t n = bytes_of(strtok(NULL, " "), frame), m = bytes_of(strtok(NULL, " "), data);
     lend();
-    unsigned refusal = front_end_slots(frame, n, data, m, numbers, FRONT_END_NUMBERS, slots, FRONT_END_ROWS);
-    printf(" %u", refusal);
-    if (!refusal) print_slot(slots);
+    front_end_told told = front_end_slots(frame, n, data, m, numbers, FRONT_END_NUMBERS, slots, FRONT_END_ROWS);
+    printf(" %u %zu", told.refusal, told.offset);
+    if (!told.refusal) print_slot(slots);
 }
 
 static void reorder_call(void) {
@@ -54,7 +54,8 @@ static void reorder_call(void) {
     size_t n = bytes_of(strtok(NULL, " "), frame), slot = strtoul(strtok(NULL, " "), NULL, 10), m = strtoul(strtok(NULL, " "), NULL, 10);
     lend();
     for (size_t i = 0; i < m; i++) numbers[i] = (int32_t)strtol(strtok(NULL, " "), NULL, 10);
-    printf(" %u", front_end_reorder(frame, n, slot, numbers, FRONT_END_SLOT));
+    front_end_told told = front_end_reorder(frame, n, slot, numbers, FRONT_END_SLOT);
+    printf(" %u %zu", told.refusal, told.offset);
     for (size_t i = 0; i < m; i++) printf(" %ld", (long)numbers[i]);
 }
 
@@ -62,7 +63,7 @@ static void sizes_call(void) {
     uint8_t frame[LINE];
     size_t n = bytes_of(strtok(NULL, " "), frame);
     front_end_frame_sizes s = front_end_sizes(frame, n);
-    printf(" %u %zu %zu %zu %zu %zu %zu %lu %lu", s.refusal, s.length, s.header, s.side, s.main, s.granules, s.channels, (unsigned long)s.rate,
+    printf(" %u %zu %zu %zu %zu %zu %zu %zu %lu %lu", s.refusal, s.offset, s.length, s.header, s.side, s.main, s.granules, s.channels, (unsigned long)s.rate,
            (unsigned long)s.bitrate);
 }
 
@@ -82,7 +83,7 @@ static void lent_call(void) {
     memcpy(slots_before, slots, sizeof slots);
     front_end_frame_told told = front_end_frame(frame, n, bytes, size[0], size[1], numbers, size[2], slots, size[3]);
     int same = !memcmp(bytes_before, bytes, sizeof bytes) && !memcmp(numbers_before, numbers, sizeof numbers) && !memcmp(slots_before, slots, sizeof slots);
-    printf(" %u %zu %zu %zu %s", told.refusal, told.length, told.main_data_begin, told.reservoir, same ? "same" : "changed");
+    printf(" %u %zu %zu %zu %zu %s", told.refusal, told.offset, told.length, told.main_data_begin, told.reservoir, same ? "same" : "changed");
 }
 
 int main(void) {

@@ -2,8 +2,15 @@
 //! tests do, on the same vectors as C's.
 
 #[repr(C)]
+pub struct CallTold {
+    pub refusal: u8,
+    pub offset: usize,
+}
+
+#[repr(C)]
 pub struct FrameTold {
     pub refusal: u8,
+    pub offset: usize,
     pub length: usize,
     pub main_data_begin: usize,
     pub reservoir: usize,
@@ -12,6 +19,7 @@ pub struct FrameTold {
 #[repr(C)]
 pub struct Sizes {
     pub refusal: u8,
+    pub offset: usize,
     pub length: usize,
     pub header: usize,
     pub side: usize,
@@ -43,9 +51,9 @@ extern "C" {
         numbers_length: usize,
         rows: *mut u16,
         rows_length: usize,
-    ) -> u8;
+    ) -> CallTold;
     fn front_end_emptied() -> usize;
-    fn front_end_reorder(frame: *const u8, frame_length: usize, slot: usize, numbers: *mut i32, numbers_length: usize) -> u8;
+    fn front_end_reorder(frame: *const u8, frame_length: usize, slot: usize, numbers: *mut i32, numbers_length: usize) -> CallTold;
     fn front_end_sizes(frame: *const u8, frame_length: usize) -> Sizes;
 }
 
@@ -68,7 +76,7 @@ pub fn frame(frame: &[u8], reservoir: &mut [u8], length: usize, numbers: &mut [i
     }
 }
 
-pub fn slots(frame: &[u8], main: &[u8], numbers: &mut [i32], rows: &mut [u16]) -> u8 {
+pub fn slots(frame: &[u8], main: &[u8], numbers: &mut [i32], rows: &mut [u16]) -> CallTold {
     unsafe {
         front_end_slots(
             frame.as_ptr(),
@@ -87,7 +95,7 @@ pub fn emptied() -> usize {
     unsafe { front_end_emptied() }
 }
 
-pub fn reorder(frame: &[u8], slot: usize, numbers: &mut [i32]) -> u8 {
+pub fn reorder(frame: &[u8], slot: usize, numbers: &mut [i32]) -> CallTold {
     unsafe { front_end_reorder(frame.as_ptr(), frame.len(), slot, numbers.as_mut_ptr(), numbers.len()) }
 }
 

@@ -190,7 +190,7 @@ impl Reservoir {
         let mut rows = [0; ROWS];
         let told = calls::frame(bytes, &mut self.bytes, self.length, numbers, &mut rows);
         self.length = told.reservoir;
-        match Refusal::of(told.refusal) {
+        match Refusal::of(told.refusal, told.offset) {
             None => Ok(Frame {
                 length: told.length,
                 main_data_begin: told.main_data_begin,
@@ -215,7 +215,7 @@ impl Reservoir {
         let told = sizes(frame)?;
         let before = told.header + told.side;
         if frame.len() < before {
-            return Err(Refusal::AbsentBytes);
+            return Err(Refusal::AbsentBytes { offset: frame.len() });
         }
         let side = &frame[told.header..];
         let back = if told.granules == 2 {
@@ -318,7 +318,8 @@ fn starts_frame(bytes: &[u8]) -> bool {
 /// nothing can tell.
 pub fn slots(frame: &[u8], main: &[u8], numbers: &mut [i32]) -> Result<[Slot; SLOTS], Refusal> {
     let mut rows = [0; ROWS];
-    match Refusal::of(calls::slots(frame, main, numbers, &mut rows)) {
+    let told = calls::slots(frame, main, numbers, &mut rows);
+    match Refusal::of(told.refusal, told.offset) {
         None => Ok(slots_of(&rows)),
         Some(refusal) => Err(refusal),
     }
@@ -331,7 +332,8 @@ pub fn slots(frame: &[u8], main: &[u8], numbers: &mut [i32]) -> Result<[Slot; SL
 pub fn reorder(frame: &[u8], slot: usize, numbers: &mut [i32; NUMBERS]) -> Result<(), Refusal> {
     // a slot past the last is lacking in every frame: the call refuses it, and changes nothing
     let from = SLOT * slot.min(SLOTS - 1);
-    match Refusal::of(calls::reorder(frame, slot, &mut numbers[from..from + SLOT])) {
+    let told = calls::reorder(frame, slot, &mut numbers[from..from + SLOT]);
+    match Refusal::of(told.refusal, told.offset) {
         None => Ok(()),
         Some(refusal) => Err(refusal),
     }
@@ -340,7 +342,7 @@ pub fn reorder(frame: &[u8], slot: usize, numbers: &mut [i32; NUMBERS]) -> Resul
 /// What follows from a frame's header: 4 bytes are enough, 6 where it has a CRC.
 pub fn sizes(frame: &[u8]) -> Result<Sizes, Refusal> {
     let s = calls::sizes(frame);
-    match Refusal::of(s.refusal) {
+    match Refusal::of(s.refusal, s.offset) {
         None => Ok(Sizes {
             length: s.length,
             header: s.header,
@@ -381,7 +383,7 @@ fn slot_of(rows: &[u16; ROWS], n: usize) -> Slot {
         return Slot::Lacking;
     }
     let scale = scale_of(&row[SCALE_AT..]);
-    if let Some(refusal) = Refusal::of(row[0] as u8) {
+    if let Some(refusal) = Refusal::of(row[0] as u8, 0) {
         return Slot::Refused { refusal, scale };
     }
     let mut read = ReadSlot {

@@ -3,25 +3,41 @@ use std::fmt;
 
 macro_rules! refusals {
     ($($(#[$doc:meta])* $name:ident = $number:literal, $text:literal;)*) => {
-        /// Why a call, a frame or a slot is refused, with its number.
+        /// Why a call, a frame or a slot is refused.
         #[derive(Clone, Copy, Debug, PartialEq, Eq)]
-        #[repr(u8)]
-        pub enum Refusal { $($(#[$doc])* $name = $number,)* }
+        pub enum Refusal {
+            /// A byte of the frame is needed and absent: the first such byte, counted from the frame's first.
+            AbsentBytes { offset: usize },
+            $($(#[$doc])* $name,)*
+        }
 
         impl Refusal {
-            /// By its number; of 0, which says that nothing was refused, none. The library answers no other.
-            pub(crate) fn of(number: u8) -> Option<Refusal> {
+            /// By its number, with the offset that is told beside it; of 0, which says that nothing was refused, none. The library answers
+            /// no other.
+            pub(crate) fn of(number: u8, offset: usize) -> Option<Refusal> {
                 match number {
                     0 => None,
+                    2 => Some(Refusal::AbsentBytes { offset }),
                     $($number => Some(Refusal::$name),)*
                     _ => unreachable!("refusal {}", number),
+                }
+            }
+
+            /// Its number.
+            pub fn number(self) -> u8 {
+                match self {
+                    Refusal::AbsentBytes { .. } => 2,
+                    $(Refusal::$name => $number,)*
                 }
             }
         }
 
         impl fmt::Display for Refusal {
             fn fmt(&self, f: &mut fmt::Formatter) -> fmt::Result {
-                f.write_str(match self { $(Refusal::$name => $text,)* })
+                match self {
+                    Refusal::AbsentBytes { offset } => write!(f, "the bytes end within the frame: byte {} of it is absent", offset),
+                    $(Refusal::$name => f.write_str($text),)*
+                }
             }
         }
     };
@@ -30,13 +46,12 @@ macro_rules! refusals {
 refusals! {
     /// Less memory lent than the call needs.
     UnfitMemory = 1, "unfit memory";
-    AbsentBytes = 2, "the bytes end within the frame";
     NoSync = 3, "no synchronisation";
     ReservedVersion = 4, "reserved version";
     ReservedLayer = 5, "reserved layer";
     OtherLayer = 6, "Layer I or II";
     FreeBitrate = 7, "free bitrate";
-    ForbiddenRate = 8, "forbidden bitrate or sampling rate";
+    ForbiddenBitrate = 8, "forbidden bitrate";
     ReservedEmphasis = 9, "reserved emphasis";
     TooManyPairs = 10, "big_values above 288";
     ForbiddenBlock = 11, "window switching with block type 0";
@@ -45,6 +60,7 @@ refusals! {
     ShortReservoir = 13, "the frame reaches too far back";
     /// Reorder: the frame has no slot of that number.
     MadeUpRecord = 14, "no such slot";
+    ReservedRate = 15, "reserved sampling rate";
     MissingBits = 20, "the slot's bits end beyond the main data";
     FactorOverrun = 21, "scale factors longer than the slot";
     LostShare = 22, "scale factors shared with a slot that was refused";
@@ -52,13 +68,6 @@ refusals! {
     PairOverrun = 24, "a pair does not end within the slot";
     /// Cannot occur: every code is complete.
     NoCodeword = 25, "no codeword";
-}
-
-impl Refusal {
-    /// Its number.
-    pub fn number(self) -> u8 {
-        self as u8
-    }
 }
 
 impl std::error::Error for Refusal {}

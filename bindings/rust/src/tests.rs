@@ -26,14 +26,20 @@ fn first_slot(slots: &[Slot; SLOTS], numbers: &[i32]) -> String {
     }
 }
 
+/// What is printed of a refusal: its number and the offset that it tells.
+fn refused(why: Refusal) -> String {
+    let offset = if let Refusal::AbsentBytes { offset } = why { offset } else { 0 };
+    format!(" {} {}", why.number(), offset)
+}
+
 fn frame_call(words: &[&str], reservoir: &mut Reservoir) -> String {
     let mut numbers = [7; NUMBERS];
     match reservoir.frame(&bytes_of(words[1]), &mut numbers) {
-        Ok(frame) => format!(" 0 {} {} {}{}", frame.length, frame.main_data_begin, reservoir.length(), first_slot(&frame.slots, &numbers)),
+        Ok(frame) => format!(" 0 0 {} {} {}{}", frame.length, frame.main_data_begin, reservoir.length(), first_slot(&frame.slots, &numbers)),
         Err(why) => {
             assert!(numbers.iter().all(|&n| n == 7));
             assert_eq!(why.length.is_some(), why.main_data_begin.is_some());
-            format!(" {} {} {} {}", why.refusal.number(), why.length.unwrap_or(0), why.main_data_begin.unwrap_or(0), reservoir.length())
+            format!("{} {} {} {}", refused(why.refusal), why.length.unwrap_or(0), why.main_data_begin.unwrap_or(0), reservoir.length())
         }
     }
 }
@@ -41,8 +47,8 @@ fn frame_call(words: &[&str], reservoir: &mut Reservoir) -> String {
 fn slots_call(words: &[&str]) -> String {
     let mut numbers = [7; NUMBERS];
     match slots(&bytes_of(words[1]), &bytes_of(words[2]), &mut numbers) {
-        Ok(told) => format!(" 0{}", first_slot(&told, &numbers)),
-        Err(refusal) => format!(" {}", refusal.number()),
+        Ok(told) => format!(" 0 0{}", first_slot(&told, &numbers)),
+        Err(refusal) => refused(refusal),
     }
 }
 
@@ -54,13 +60,13 @@ fn reorder_call(words: &[&str]) -> String {
     numbers[place.clone()].copy_from_slice(&own);
     let answer = reorder(&bytes_of(words[1]), slot, &mut numbers);
     assert!((0..NUMBERS).all(|i| i / SLOT == slot || numbers[i] == 7), "another slot's numbers have changed");
-    format!(" {}{}", answer.map_or_else(Refusal::number, |()| 0), joined(&numbers[place]))
+    format!("{}{}", answer.map_or_else(refused, |()| " 0 0".into()), joined(&numbers[place]))
 }
 
 fn sizes_call(words: &[&str]) -> String {
     match sizes(&bytes_of(words[1])) {
-        Ok(s) => joined(vec![0, s.length, s.header, s.side, s.main, s.granules, s.channels, s.rate as usize, s.bitrate as usize]),
-        Err(refusal) => format!(" {}{}", refusal.number(), " 0".repeat(8)),
+        Ok(s) => joined(vec![0, 0, s.length, s.header, s.side, s.main, s.granules, s.channels, s.rate as usize, s.bitrate as usize]),
+        Err(refusal) => refused(refusal) + &" 0".repeat(8),
     }
 }
 
@@ -71,7 +77,7 @@ fn lent_call(words: &[&str]) -> String {
     let told = calls::frame(&bytes_of(words[5]), &mut reservoir, size[1], &mut numbers, &mut rows);
     let same = reservoir.iter().all(|&b| b == 0x55) && numbers.iter().all(|&n| n == 7) && rows.iter().all(|&n| n == 0x7777);
     let changed = if same { "same" } else { "changed" };
-    format!(" {} {} {} {} {}", told.refusal, told.length, told.main_data_begin, told.reservoir, changed)
+    format!(" {} {} {} {} {} {}", told.refusal, told.offset, told.length, told.main_data_begin, told.reservoir, changed)
 }
 
 #[test]
@@ -147,7 +153,7 @@ fn a_cut_frame_reaches_back() {
     assert_eq!(first_slot(&told, &numbers), F_SLOT);
     frame[4] = 12;
     assert_eq!(reservoir.slots(&frame[..14], &mut numbers), Err(Refusal::ShortReservoir));
-    assert_eq!(reservoir.slots(&frame[..12], &mut numbers), Err(Refusal::AbsentBytes));
+    assert_eq!(reservoir.slots(&frame[..12], &mut numbers), Err(Refusal::AbsentBytes { offset: 12 }));
 }
 
 /// After a gap a reader reaches back to nothing, and goes on.

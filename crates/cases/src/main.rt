@@ -3,11 +3,14 @@
 //   m B N      memory lent from here on: B bytes for the reservoir, N numbers
 //   l L        the reservoir's stated length
 //   f Z HEX    a frame: these bytes, then Z zeros
+//   z Z HEX    what the program `slots` writes of these bytes
+//   i HDR Z HEX    the side information of these bytes, under the header that HDR reads to
 //   s Z HEX    slots from given main data, under the header and side information of the last frame
 //   e          the emptying call
 //   o S N K    reorder by the record of slot S over the numbers 1 to N; the first K of them are printed
 //   p S V      the last frame's side information with V pairs in its slot S, which may make it up
 //   h          the last frame's header with the rate 8 kHz, which makes it up
+mod program;
 mod words;
 
 use derived::is_two;
@@ -30,6 +33,7 @@ use lines::put_numbers;
 use lines::put_slots;
 use lines::text::put_number;
 use main_data::read_slots;
+use program::put_program;
 use reorder::reorder;
 use reservoir::emptied;
 use side_info::read_side_info;
@@ -38,6 +42,7 @@ use standard::FrameAnswer;
 use standard::FrameHeader;
 use standard::HeaderAnswer;
 use standard::RESERVOIR_BYTES;
+use standard::Refusal;
 use standard::Reservoir;
 use standard::SampleRate;
 use standard::SideInfo;
@@ -47,6 +52,7 @@ use standard::Verdict;
 use words::bytes_from;
 use words::line_end;
 use words::number;
+use words::word_end;
 
 // What the next case goes by, beside the last frame's bytes: how many these are, the reservoir's stated length, how much memory is
 // lent, and what is made up of the last frame's header (the rate) and side information (the pairs of a slot).
@@ -75,9 +81,19 @@ fn put_verdict(out: &mut [u8], at: usize, v: Verdict) -> usize {
         Verdict::Accepted => put(out, at, b"accepted"),
         Verdict::Refused(why) => {
             let next = put(&mut *out, at, b"refused ");
-            put_number(out, next, number_of(why) as u64)
+            let end = put_number(&mut *out, next, number_of(why) as u64);
+            put_offset(out, end, why)
         }
     }
+}
+
+// Of absent bytes, the offset of the first.
+fn put_offset(out: &mut [u8], at: usize, why: Refusal) -> usize {
+    if let Refusal::AbsentBytes { offset } = why {
+        let next = put(&mut *out, at, b" offset ");
+        return put_number(out, next, offset as u64);
+    }
+    at
 }
 
 // The bytes of a case: those in hex after the first number, then as many zeros as it says.
@@ -249,6 +265,37 @@ fn side_of(last: &[u8], state: State) -> SideInfo {
     )
 }
 
+fn put_side(out: &mut [u8], at: usize, verdict: Verdict, begin: u16) -> usize {
+    match verdict {
+        Verdict::Refused(_) => put_verdict(out, at, verdict),
+        Verdict::Accepted => {
+            let next = put(&mut *out, at, b"begin ");
+            put_number(out, next, begin as u64)
+        }
+    }
+}
+
+// i
+fn run_side(text: &[u8], out: &mut [u8]) {
+    let mut head = [0u8; 8];
+    let mut frame = [0u8; 2048];
+    let from = word_end(text, 2);
+    let n = bytes_from(unread(text, Held { from: 2, end: from }), 0, &mut head);
+    let rest = Held {
+        from,
+        end: text.len(),
+    };
+    let c = bytes_of(unread(text, rest), &mut frame);
+    let h = header_in(unread(&head, Held { from: 0, end: n }));
+    let a = read_side_info(h, unread(&frame, c));
+    let verdict = a.verdict;
+    let info = a.info;
+    let at = put(&mut *out, 0, b"side ");
+    let next = put_side(&mut *out, at, verdict, info.main_data_begin);
+    let end = put(&mut *out, next, b"\n");
+    say(out, end);
+}
+
 fn call_slots(
     main: &[u8],
     h: FrameHeader,
@@ -324,6 +371,14 @@ fn run_reorder(text: &[u8], last: &[u8], out: &mut [u8], state: State) {
     let verdict = call_reorder(slot.value, lent.value, h, i, &mut numbers);
     let at = put_answer(&mut *out, b"reorder ", verdict, b":");
     show_numbers(out, at, part(&numbers, 0, shown.value));
+}
+
+// z
+fn run_program(text: &[u8], bytes: &mut [u8], numbers: &mut [i32], out: &mut [u8]) {
+    let mut card = [0u8; 2048];
+    let c = bytes_of(text, &mut card);
+    let end = put_program(&mut *out, unread(&card, c), bytes, numbers);
+    say(out, end);
 }
 
 // ---- the rest
@@ -405,6 +460,14 @@ fn run_line(
     }
     if c == b's' {
         run_slots(text, last, numbers, out, state);
+        return state;
+    }
+    if c == b'i' {
+        run_side(text, out);
+        return state;
+    }
+    if c == b'z' {
+        run_program(text, bytes, numbers, out);
         return state;
     }
     if c == b'o' {

@@ -82,16 +82,28 @@ pub(crate) fn bytes_from(text: &[u8], from: usize, bytes: &mut [u8]) -> usize {
     n
 }
 
-// The place of the next line's end.
-pub(crate) fn line_end(text: &[u8], from: usize) -> usize
+// The place of the next byte of a kind, or the end.
+fn place_of(text: &[u8], from: usize, c: u8) -> usize
     ensures { λ r. ⌜ from ≤ r ⌝ }
 {
     let mut at = from;
     while at < text.len() {
-        if text[at] == 10 {
+        if text[at] == c {
             return at;
         }
         at += 1;
     }
     at
+}
+
+// The place of the next line's end.
+pub(crate) fn line_end(text: &[u8], from: usize) -> usize
+    ensures { λ r. ⌜ from ≤ r ⌝ }
+{
+    place_of(text, from, b'\n')
+}
+
+// The place of the next blank.
+pub(crate) fn word_end(text: &[u8], from: usize) -> usize {
+    place_of(text, from, b' ')
 }

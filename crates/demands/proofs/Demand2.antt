@@ -29,7 +29,7 @@ use Rattle.front_end.proofs.front_end_sizes.Kinds as front-end-sizes-kinds
 use Rattle.demands.proofs.Call.{Call}
 use Rattle.demands.proofs.Calls.{HeaderCall, headerFrame, SideInfoCall, sideHeader, sideFrame, SlotsCall, slotsHeader, slotsInfo, mainData, slotsNumbers, slotsNumbersAfter, FrameStep, frame, bytes, reservoir, numbers, bytesAfter, numbersAfter, EmptiedCall, ReorderCall, reorderHeader, reorderRecord, reorderNumbers, reorderNumbersAfter}
 
--- 11172-3, 2.4.1.3 and 2.4.2.3; 13818-3, 2.4.2.3: the header of a frame's bytes; refusals 2 to 9
+-- 11172-3, 2.4.1.3 and 2.4.2.3; 13818-3, 2.4.2.3: the header of a frame's bytes; refusals 2 to 9 and 15
 pub header-is : (c : HeaderCall) → toldHeader (c .answer) ≡ headerOf (headerFrame c)
 header-is c = c .promised
 
@@ -42,7 +42,7 @@ pub slots-are : (c : SlotsCall)
     → SlotsRead (slotsNumbers c) (readSlots (slotsHeader c) (slotsInfo c) (mainData c) (length (slotsNumbers c))) (c .answer) (slotsNumbersAfter c)
 slots-are c = c .promised
 
--- 11172-3, 2.4.1.1 to 2.4.1.7, and 2.4.2.7 (main_data_begin): a frame from bytes and reservoir; refusals 1 to 13
+-- 11172-3, 2.4.1.1 to 2.4.1.7, and 2.4.2.7 (main_data_begin): a frame from bytes and reservoir; refusals 1 to 13 and 15
 pub frame-is : (c : FrameStep)
     → FrameRead (bytes c) (reservoir c) (numbers c) (frameCall (frame c) (bytes c) (reservoir c .length) (length (numbers c))) (c .answer) (bytesAfter c)
     (numbersAfter c)

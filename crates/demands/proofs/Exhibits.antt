@@ -49,7 +49,7 @@ use Rattle.huffman.specs.declared.HuffmanAnswer.the-variants.{Uncounted}
 use Rattle.codes.specs.Flat.{trees}
 use Rattle.demands.proofs.Calls.{HuffmanCall, slotSaid, FrameStep, frame, bytes, reservoir, numbers, SlotsCall, slotsHeader, slotsInfo, mainData, slotsNumbers, TurnCall, ReorderCall, reorderHeader, reorderRecord, reorderNumbers, SideInfoCall, IsHeaderCall, IsSideInfoCall, IsRecordCall, MainSizeCall, EmptiedCall, TreesCall, LookupCall, lookupTrees, lookupTable, lookupBits}
 use Rattle.demands.proofs.Made.{lend, answerOf, answersOf, fourOf, frameStep, slotsCall, sideInfoCall, reorderCall, turnCall}
-use Rattle.front_end.specs.Calls.{perRows, rowsAfter, frameStep as stepIn, frameTold, slotsStep, reorderStep}
+use Rattle.front_end.specs.Calls.{perRows, callTold, rowsAfter, frameStep as stepIn, frameTold, slotsStep, reorderStep}
 use Rattle.demands.proofs.Exported.{ExportedFrame, ExportedSlots, ExportedReorder}
 use Rattle.demands.proofs.Bounds.{InTurn}
 use Rattle.demands.proofs.Worked.{Lent, way-known}
@@ -334,26 +334,26 @@ pub exported-short : exported (reachingBack 1) (memory 0) 0 zeros (replicate per
 unfolding exported stepIn frameTold step
 exported-short = ap (λ (p : Step). frameTold 0 p .refusal) (passed (noStep UnfitMemory) refl ∙ comes-to (reachingBack 1) 0)
 
-pub exported-slots : (c : ExportedSlots) × (c .answer ≡ 1)
+pub exported-slots : (c : ExportedSlots) × (c .answer .refusal ≡ 1)
 unfolding slotsStep pick verdictOf toldOr numbersFrom rowsAfter
 exported-slots = (
   record {
     lifetimes = ([], ([], ([], ([], tt))));
     args = (lend [], (lend [], (lend [], (lend [], tt))));
-    answer = 1;
+    answer = callTold (Refused UnfitMemory);
     exit = (lend [], (lend [], (lend [], (lend [], tt))));
     promised = record { answer = refl; numbers-are = refl; rows-are = refl };
   },
   refl,
 )
 
-pub exported-reorder : (c : ExportedReorder) × (c .answer ≡ 1)
+pub exported-reorder : (c : ExportedReorder) × (c .answer .refusal ≡ 1)
 unfolding reorderStep pick verdictOf toldOr
 exported-reorder = (
   record {
     lifetimes = ([], ([], tt));
     args = (lend [], (0, (lend [], tt)));
-    answer = 1;
+    answer = callTold (Refused UnfitMemory);
     exit = (lend [], (0, (lend [], tt)));
     promised = record { answer = refl; numbers-are = refl };
   },

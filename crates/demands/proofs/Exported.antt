@@ -19,8 +19,9 @@ use Rattle.standard.specs.Frame.{Step, noStep, shortStep, fullStep, mainOf}
 use Rattle.standard.specs.StepLaws.{Way, refusedWay, shortWay, fullWay, call-way}
 use Rattle.standard.specs.declared.FrameHeader.{FrameHeader}
 use Rattle.standard.specs.declared.SlotRecord.{SlotRecord}
-use Rattle.front_end.specs.Calls.{perRows, numberTold, rowsAfter, frameStep, frameTold, FrameDone, SlotsDone, ReorderDone}
+use Rattle.front_end.specs.Calls.{perRows, callTold, rowsAfter, frameStep, frameTold, FrameDone, SlotsDone, ReorderDone}
 use Rattle.front_end.specs.declared.FrameTold.{FrameTold}
+use Rattle.front_end.specs.declared.CallTold.{CallTold}
 use Rattle.front_end.proofs.front_end_frame.Reads as front-end-frame
 use Rattle.front_end.proofs.front_end_frame.Kinds as front-end-frame-kinds
 use Rattle.front_end.proofs.front_end_slots.Reads as front-end-slots
@@ -109,28 +110,29 @@ ExportedSlots = Call front-end-slots-kinds.ps front-end-slots-kinds.r front-end-
 abbrev pub ExportedReorder : Type 0
 ExportedReorder = Call front-end-reorder-kinds.ps front-end-reorder-kinds.r front-end-reorder.Post
 
-slots-refused : {d nums : List ℤ} {rows now-rows : List ℕ} {rs : List SlotRecord} {t : Told (List Outcome)} {r : ℕ} → SlotsDone d rows rs t r nums now-rows
-    → (r ≡ 0 → ⊥) → (nums ≡ d) × (now-rows ≡ rows)
+slots-refused : {d nums : List ℤ} {rows now-rows : List ℕ} {rs : List SlotRecord} {t : Told (List Outcome)} {r : CallTold}
+    → SlotsDone d rows rs t r nums now-rows
+    → (r .refusal ≡ 0 → ⊥) → (nums ≡ d) × (now-rows ≡ rows)
 unfolding verdictOf toldOr numbersFrom rowsAfter
 slots-refused {d} {nums} {rows} {now-rows} {rs} {t} {r} f m = go t (f .answer) (f .numbers-are) (f .rows-are)
   where
-    go : (t : Told (List Outcome)) → r ≡ numberTold (verdictOf t) → nums ≡ numbersFrom 0 (toldOr [] t) d
+    go : (t : Told (List Outcome)) → r ≡ callTold (verdictOf t) → nums ≡ numbersFrom 0 (toldOr [] t) d
         → now-rows ≡ rowsAfter (verdictOf t) rs (slotsTold (toldOr [] t)) rows
         → (nums ≡ d) × (now-rows ≡ rows)
     go (refused j) e n w = (n, w)
-    go (told os) e n w = absurd (m e)
+    go (told os) e n w = absurd (m (ap (λ (x : CallTold). x .refusal) e))
 
-pub refused-slots : (c : ExportedSlots) → (c .answer ≡ 0 → ⊥) → (now (c .exit .1 .1 .0) ≡ now (c .args .1 .1 .0))
+pub refused-slots : (c : ExportedSlots) → (c .answer .refusal ≡ 0 → ⊥) → (now (c .exit .1 .1 .0) ≡ now (c .args .1 .1 .0))
     × (now (c .exit .1 .1 .1 .0) ≡ now (c .args .1 .1 .1 .0))
 refused-slots c = slots-refused (c .promised)
 
-reorder-refused : {d nums : List ℤ} {t : Told (List ℤ)} {r : ℕ} → ReorderDone d t r nums → (r ≡ 0 → ⊥) → nums ≡ d
+reorder-refused : {d nums : List ℤ} {t : Told (List ℤ)} {r : CallTold} → ReorderDone d t r nums → (r .refusal ≡ 0 → ⊥) → nums ≡ d
 unfolding verdictOf toldOr
 reorder-refused {d} {nums} {t} {r} f m = go t (f .answer) (f .numbers-are)
   where
-    go : (t : Told (List ℤ)) → r ≡ numberTold (verdictOf t) → nums ≡ toldOr d t → nums ≡ d
+    go : (t : Told (List ℤ)) → r ≡ callTold (verdictOf t) → nums ≡ toldOr d t → nums ≡ d
     go (refused j) e n = n
-    go (told x) e n = absurd (m e)
+    go (told x) e n = absurd (m (ap (λ (x : CallTold). x .refusal) e))
 
-pub refused-reorder : (c : ExportedReorder) → (c .answer ≡ 0 → ⊥) → now (c .exit .1 .1 .0) ≡ now (c .args .1 .1 .0)
+pub refused-reorder : (c : ExportedReorder) → (c .answer .refusal ≡ 0 → ⊥) → now (c .exit .1 .1 .0) ≡ now (c .args .1 .1 .0)
 refused-reorder c = reorder-refused (c .promised)

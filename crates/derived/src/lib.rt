@@ -12,7 +12,7 @@ use standard::Shape;
 ghost use mathlib.Core.Path.{_≡_};
 ghost use Prim.Native.Nat.{_*_, _/_};
 ghost use Rattle.standard.specs.Record.{shapeBy};
-ghost use Rattle.standard.specs.Refusals.{numberOf};
+ghost use Rattle.standard.specs.Refusals.{numberOf, offsetOf};
 ghost use Rattle.standard.specs.Header.{«bps», «hz», isMpeg1, isTwo, isIntensity};
 ghost use Rattle.standard.specs.Header.{slotBytes, headerSize, dataSize, frameLength, sideBytes, sideSize, mainSize, «granules», channelCount};
 
@@ -227,13 +227,14 @@ pub fn number_of(why: Refusal) -> u8
     match why {
         Refusal::UnfitMemory => 1,
         Refusal::MadeUpRecord => 14,
-        Refusal::AbsentBytes => 2,
+        Refusal::AbsentBytes { offset: _ } => 2,
         Refusal::NoSync => 3,
         Refusal::ReservedVersion => 4,
         Refusal::ReservedLayer => 5,
         Refusal::OtherLayer => 6,
         Refusal::FreeBitrate => 7,
-        Refusal::ForbiddenRate => 8,
+        Refusal::ForbiddenBitrate => 8,
+        Refusal::ReservedRate => 15,
         Refusal::ReservedEmphasis => 9,
         Refusal::TooManyPairs => 10,
         Refusal::ForbiddenBlock => 11,
@@ -245,5 +246,15 @@ pub fn number_of(why: Refusal) -> u8
         Refusal::RegionOverrun => 23,
         Refusal::PairOverrun => 24,
         Refusal::NoCodeword => 25,
+    }
+}
+
+// The offset of the first byte that was needed and absent, from the frame's first; 0 for a refusal that tells none.
+pub fn offset_of(why: Refusal) -> usize
+    ensures { λ r. ⌜ r ≡ offsetOf why ⌝ }
+{
+    match why {
+        Refusal::AbsentBytes { offset } => offset as usize,
+        _ => 0,
     }
 }

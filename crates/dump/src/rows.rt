@@ -16,6 +16,7 @@ use lines::text::put_number;
 use reorder::reorder;
 use standard::FrameAnswer;
 use standard::FrameHeader;
+use standard::Refusal;
 use standard::SLOT_NUMBERS;
 use standard::Shape;
 use standard::SideInfo;
@@ -217,6 +218,15 @@ fn put_slots(
     next
 }
 
+// A frame that tells nothing but its refusal: the number, and of absent bytes the offset of the first.
+fn put_refused(out: &mut [u8], at: usize, place: u64, why: Refusal) -> usize {
+    let number = number_of(why) as u64;
+    if let Refusal::AbsentBytes { offset } = why {
+        return put_row(out, at, b"refused", &[place, number, offset as u64]);
+    }
+    put_row(out, at, b"refused", &[place, number])
+}
+
 // A frame's first line: where it was tried, and its length and the reservoir's, or the number by which it is refused.
 fn put_first(
     out: &mut [u8],
@@ -232,7 +242,7 @@ fn put_first(
             if is_told(verdict) {
                 return put_row(out, at, b"reach", &[place, length, kept]);
             }
-            put_row(out, at, b"refused", &[place, number_of(why) as u64])
+            put_refused(out, at, place, why)
         }
     }
 }

@@ -124,7 +124,8 @@ fn with_header(
         return refused(why, reservoir);
     }
     if frame.len() < frame_length(h) {
-        return refused(Refusal::AbsentBytes, reservoir);
+        let offset = frame.len() as u16;
+        return refused(Refusal::AbsentBytes { offset }, reservoir);
     }
     let from = header_size(h) + side_size(h);
     let to = from + main_size(h);

@@ -19,6 +19,7 @@ use Rattle.standard.specs.declared.SlotAnswer.{SlotAnswer}
 use Rattle.standard.specs.declared.FrameHeader.{FrameHeader}
 use Rattle.standard.specs.declared.SideInfo.{SideInfo}
 use Rattle.standard.specs.declared.Verdict.{Verdict}
+use Rattle.standard.specs.declared.Verdict.the-variants.{Accepted, Refused}
 use Rattle.standard.specs.declared.SlotsAnswer.{SlotsAnswer}
 use Rattle.standard.specs.declared.FrameAnswer.{FrameAnswer}
 use Rattle.standard.specs.declared.Refusal.{Refusal}
@@ -33,7 +34,8 @@ use Rattle.standard.specs.Record.{pastRecord}
 use Rattle.fields.specs.Values.{scaleValues}
 use Rattle.main_data.proofs.Turns.{four-at-most}
 use Rattle.front_end.specs.declared.FrameTold.{FrameTold}
-use Rattle.front_end.specs.Calls.{perRow, perRows, numberTold, saidNumber, saidCount, slotRow, rowsFrom, rowsAfter, following, under, reorderBy, reorderStep, ReorderDone, slotsStep, recordsIn, SlotsDone, frameStep, frameTold, FrameDone}
+use Rattle.front_end.specs.declared.CallTold.{CallTold}
+use Rattle.front_end.specs.Calls.{perRow, perRows, callTold, saidNumber, saidCount, slotRow, rowsFrom, rowsAfter, following, under, reorderBy, reorderStep, ReorderDone, slotsStep, recordsIn, SlotsDone, frameStep, frameTold, FrameDone}
 
 -- ---- rows
 -- a row written in its five pieces
@@ -144,16 +146,17 @@ module _ {B : Type 0} (s : List ℕ) (f : FrameHeader → SideInfo → Told B) w
         ap (λ (x : Told FrameHeader). following x (λ (y : FrameHeader). following (sideOf y s) (f y))) e ∙ ap (λ (x : Told SideInfo). following x (f h)) g
 
 -- ---- the calls
-pub reorder-refused : {d left : List ℤ} {t : Told (List ℤ)} {r : ℕ} (why : Refusal) → t ≡ refused why → r ≡ numberOf why → left ≡ d → ReorderDone d t r left
+pub reorder-refused : {d left : List ℤ} {t : Told (List ℤ)} {r : CallTold} (why : Refusal) → t ≡ refused why → r ≡ callTold (Refused why) → left ≡ d
+    → ReorderDone d t r left
 unfolding verdictOf toldOr
 reorder-refused {d} why e n l = record {
-  answer = n ∙ sym (ap (λ (x : Told (List ℤ)). numberTold (verdictOf x)) e);
+  answer = n ∙ sym (ap (λ (x : Told (List ℤ)). callTold (verdictOf x)) e);
   numbers-are = l ∙ sym (ap (toldOr d) e);
 }
 
-pub reorder-done : {d left : List ℤ} {t u : Told (List ℤ)} {v : Verdict} {r : ℕ} → u ≡ t → Answers d v left t → r ≡ numberTold v → ReorderDone d u r left
+pub reorder-done : {d left : List ℤ} {t u : Told (List ℤ)} {v : Verdict} {r : CallTold} → u ≡ t → Answers d v left t → r ≡ callTold v → ReorderDone d u r left
 reorder-done {d} e a n = record {
-  answer = n ∙ ap numberTold (a .verdict) ∙ sym (ap (λ (x : Told (List ℤ)). numberTold (verdictOf x)) e);
+  answer = n ∙ ap callTold (a .verdict) ∙ sym (ap (λ (x : Told (List ℤ)). callTold (verdictOf x)) e);
   numbers-are = a .value ∙ sym (ap (toldOr d) e);
 }
 
@@ -175,12 +178,12 @@ module _ (s : List ℕ) (n : ℕ) (d : List ℤ) where
   reorder-lacking h i l = passed _ (le-ltb n (granules h * channelCount h) l)
 
 -- the slots from given main data
-pub slots-refused : {d numbers : List ℤ} {rows left : List ℕ} {rs : List SlotRecord} {t : Told (List Outcome)} {r : ℕ} (why : Refusal)
-    → t ≡ refused why → r ≡ numberOf why → numbers ≡ d → left ≡ rows
+pub slots-refused : {d numbers : List ℤ} {rows left : List ℕ} {rs : List SlotRecord} {t : Told (List Outcome)} {r : CallTold} (why : Refusal)
+    → t ≡ refused why → r ≡ callTold (Refused why) → numbers ≡ d → left ≡ rows
     → SlotsDone d rows rs t r numbers left
 unfolding verdictOf toldOr rowsAfter numbersFrom
 slots-refused {d} {rows = rows} {rs = rs} why e n m l = record {
-  answer = n ∙ sym (ap (λ (x : Told (List Outcome)). numberTold (verdictOf x)) e);
+  answer = n ∙ sym (ap (λ (x : Told (List Outcome)). callTold (verdictOf x)) e);
   numbers-are = m ∙ sym (ap (λ (x : Told (List Outcome)). numbersFrom 0 (toldOr [] x) d) e);
   rows-are = l ∙ sym (ap (λ (x : Told (List Outcome)). rowsAfter (verdictOf x) rs (slotsTold (toldOr [] x)) rows) e);
 }
@@ -199,13 +202,14 @@ pub records-in : (s : List ℕ) {h : FrameHeader} {i : SideInfo} → headerOf s 
 unfolding recordsIn toldOr
 records-in s e g = ap (λ (x : Told SideInfo). toldOr noSide x .slots) (under-both s (λ (h : FrameHeader) (i : SideInfo). told i) e g)
 
-pub slots-done : {d numbers : List ℤ} {rows left : List ℕ} {rs qs : List SlotRecord} {t u : Told (List Outcome)} {a : SlotsAnswer} {r : ℕ} → rs ≡ qs → u ≡ t
+pub slots-done : {d numbers : List ℤ} {rows left : List ℕ} {rs qs : List SlotRecord} {t u : Told (List Outcome)} {a : SlotsAnswer} {r : CallTold}
+    → rs ≡ qs → u ≡ t
     → SlotsRead d t a numbers
-    → (r ≡ numberTold (a .verdict)) × (left ≡ rowsAfter (a .verdict) qs (a .slots) rows) → SlotsDone d rows rs u r numbers left
+    → (r ≡ callTold (a .verdict)) × (left ≡ rowsAfter (a .verdict) qs (a .slots) rows) → SlotsDone d rows rs u r numbers left
 slots-done {d} {numbers} {rows} {left} {rs} {qs} {t} {u} {a} {r} same e s w =
     subst (λ (x : Told (List Outcome)). SlotsDone d rows rs x r numbers left) (sym e)
     (record {
-      answer = w .0 ∙ ap numberTold (s .verdict);
+      answer = w .0 ∙ ap callTold (s .verdict);
       numbers-are = s .numbers;
       rows-are = w .1 ∙ (λ j. rowsAfter (s .verdict j) (sym same j) (s .slots j) rows);
     })
@@ -220,29 +224,44 @@ module _ (s lent : List ℕ) (stated d room : ℕ) where
   unfolding frameStep
   room-fits h = passed _ (le-ltb room perRows h)
 
-pub frame-few : {lent left rows told-rows : List ℕ} {stated : ℕ} {d numbers : List ℤ} {p : Step} {n : ℕ} → p ≡ noStep UnfitMemory → n ≡ numberOf UnfitMemory
-    → left ≡ lent → numbers ≡ d → told-rows ≡ rows
-    → FrameDone lent stated d rows p (record { refusal = n; length = 0; «main_data_begin» = 0; reservoir = stated }) left numbers told-rows
+pub frame-few : {lent left rows told-rows : List ℕ} {stated : ℕ} {d numbers : List ℤ} {p : Step} {t : CallTold} → p ≡ noStep UnfitMemory
+    → t ≡ callTold (Refused UnfitMemory) → left ≡ lent → numbers ≡ d → told-rows ≡ rows
+    → FrameDone lent stated d rows p (record { refusal = t .refusal; offset = t .offset; length = 0; «main_data_begin» = 0; reservoir = stated }) left
+    numbers told-rows
 unfolding noStep noSide frameTold reservoirAfter bytesAfter numbersFrom rowsAfter
-frame-few {lent} {left} {rows} {told-rows} {stated} {d} {numbers} {p} {n} e f l m t =
-    subst (λ (x : Step). FrameDone lent stated d rows x (record { refusal = n; length = 0; «main_data_begin» = 0; reservoir = stated }) left numbers told-rows)
-    (sym e)
-    (record { answer = λ j. record { refusal = f j; length = 0; «main_data_begin» = 0; reservoir = stated }; bytes = l; numbers-are = m; rows-are = t })
+frame-few {lent} {left} {rows} {told-rows} {stated} {d} {numbers} {p} {t} e f l m w =
+    subst (λ (x : Step). FrameDone lent stated d rows x
+    (record { refusal = t .refusal; offset = t .offset; length = 0; «main_data_begin» = 0; reservoir = stated }) left numbers told-rows) (sym e)
+    (record {
+      answer = λ j. record { refusal = f j .refusal; offset = f j .offset; length = 0; «main_data_begin» = 0; reservoir = stated };
+      bytes = l;
+      numbers-are = m;
+      rows-are = w;
+    })
 
--- the answer in numbers, with the verdict's number at hand
-abbrev pub numbersOf : ℕ → FrameAnswer → FrameTold
-numbersOf n a = record { refusal = n; length = a .length; «main_data_begin» = a .info .«main_data_begin»; reservoir = a .reservoir .length }
+-- the answer in numbers, with the verdict's at hand
+abbrev pub numbersOf : CallTold → FrameAnswer → FrameTold
+numbersOf t a =
+    record {
+      refusal = t .refusal;
+      offset = t .offset;
+      length = a .length;
+      «main_data_begin» = a .info .«main_data_begin»;
+      reservoir = a .reservoir .length;
+    }
 
-pub frame-done : {lent left rows told-rows : List ℕ} {stated : ℕ} {d numbers : List ℤ} {p q : Step} {a : FrameAnswer} {n : ℕ} → q ≡ p
+pub frame-done : {lent left rows told-rows : List ℕ} {stated : ℕ} {d numbers : List ℤ} {p q : Step} {a : FrameAnswer} {t : CallTold} → q ≡ p
     → FrameRead lent (record { length = stated }) d p a left numbers
-    → (n ≡ numberTold (a .verdict)) × (told-rows ≡ rowsAfter (a .verdict) (a .info .slots) (a .slots) rows)
-    → FrameDone lent stated d rows q (numbersOf n a) left numbers told-rows
+    → (t ≡ callTold (a .verdict)) × (told-rows ≡ rowsAfter (a .verdict) (a .info .slots) (a .slots) rows)
+    → FrameDone lent stated d rows q (numbersOf t a) left numbers told-rows
 unfolding frameTold
-frame-done {lent} {left} {rows} {told-rows} {stated} {d} {numbers} {p} {q} {a} {n} e r w =
-    subst (λ (x : Step). FrameDone lent stated d rows x (numbersOf n a) left numbers told-rows) (sym e)
+frame-done {lent} {left} {rows} {told-rows} {stated} {d} {numbers} {p} {q} {a} {t} e r w =
+    let told-is = w .0 ∙ ap callTold (r .verdict) in
+    subst (λ (x : Step). FrameDone lent stated d rows x (numbersOf t a) left numbers told-rows) (sym e)
     (record {
       answer = λ j. record {
-        refusal = (w .0 ∙ ap numberTold (r .verdict)) j;
+        refusal = told-is j .refusal;
+        offset = told-is j .offset;
         length = r .length-is j;
         «main_data_begin» = r .info j .«main_data_begin»;
         reservoir = r .reservoir j .length;

@@ -10,7 +10,7 @@ use lib.ListN.{length, getD}
 use lib.Seq.{paste}
 use Rattle.standard.specs.Sizes.{perFrame, perSlot}
 use Rattle.standard.specs.Told.{Told, refused, told, pick, verdictOf, toldOr}
-use Rattle.standard.specs.Refusals.{numberOf}
+use Rattle.standard.specs.Refusals.{numberOf, offsetOf}
 use Rattle.standard.specs.declared.Verdict.{Verdict}
 use Rattle.standard.specs.declared.Verdict.the-variants.{Accepted, Refused}
 use Rattle.standard.specs.Header.{hz, bps, headerOf, headerSize, sideSize, mainSize, frameLength, granules, channelCount}
@@ -26,15 +26,16 @@ use Rattle.standard.specs.declared.Refusal.the-variants.{UnfitMemory, MadeUpRec
 use Rattle.fields.specs.Values.{scaleValues}
 use Rattle.front_end.specs.declared.Sizes.{Sizes}
 use Rattle.front_end.specs.declared.FrameTold.{FrameTold}
+use Rattle.front_end.specs.declared.CallTold.{CallTold}
 use Rattle.standard.specs.declared.SlotRecord.{SlotRecord}
 use Rattle.standard.specs.declared.SlotAnswer.{SlotAnswer}
 use Rattle.standard.specs.declared.SlotOutcome.{SlotOutcome}
 use Rattle.standard.specs.declared.SlotOutcome.the-variants.{Read, NotRead, Lacking}
 
 -- no refusal has the number 0
-abbrev pub numberTold : Verdict → ℕ
-numberTold (Refused r) = numberOf r
-numberTold Accepted = 0
+abbrev pub callTold : Verdict → CallTold
+callTold (Refused r) = record { refusal = numberOf r; offset = offsetOf r }
+callTold Accepted = record { refusal = 0; offset = 0 }
 
 -- ---- a slot's row: what became of it, its count, its 22 long factors and its 39 short ones, and 7 that its numbers are scaled by
 abbrev pub perRow : ℕ
@@ -77,7 +78,8 @@ frameStep s lent stated d room = pick (ltb room perRows) (noStep UnfitMemory) (f
 unfoldable pub frameTold : ℕ → Step → FrameTold
 frameTold stated p =
     record {
-      refusal = numberTold (p .verdict);
+      refusal = callTold (p .verdict) .refusal;
+      offset = callTold (p .verdict) .offset;
       length = p .length;
       «main_data_begin» = p .info .«main_data_begin»;
       reservoir = reservoirAfter (record { length = stated }) (p .kept) .length;
@@ -110,9 +112,9 @@ slotsStep s main d room =
     pick (ltb room perRows || ltb d perFrame) (refused UnfitMemory)
     (under s (λ (h : FrameHeader) (i : SideInfo). readSlots h i main d))
 
-pub record SlotsDone (d : List ℤ) (rows : List ℕ) (rs : List SlotRecord) (t : Told (List Outcome)) (r : ℕ) (numbers : List ℤ)
+pub record SlotsDone (d : List ℤ) (rows : List ℕ) (rs : List SlotRecord) (t : Told (List Outcome)) (r : CallTold) (numbers : List ℤ)
     (told-rows : List ℕ) : Type 0 where
-  pub answer : r ≡ numberTold (verdictOf t)
+  pub answer : r ≡ callTold (verdictOf t)
   pub numbers-are : numbers ≡ numbersFrom 0 (toldOr [] t) d
   pub rows-are : told-rows ≡ rowsAfter (verdictOf t) rs (slotsTold (toldOr [] t)) rows
 
@@ -126,17 +128,18 @@ reorderStep s n d =
     pick (ltb (length d) perSlot) (refused UnfitMemory)
     (under s (λ (h : FrameHeader) (i : SideInfo). reorderBy h i n d))
 
-pub record ReorderDone (d : List ℤ) (t : Told (List ℤ)) (r : ℕ) (numbers : List ℤ) : Type 0 where
-  pub answer : r ≡ numberTold (verdictOf t)
+pub record ReorderDone (d : List ℤ) (t : Told (List ℤ)) (r : CallTold) (numbers : List ℤ) : Type 0 where
+  pub answer : r ≡ callTold (verdictOf t)
   pub numbers-are : numbers ≡ toldOr d t
 
 -- ---- what a header says of its frame; nothing is told of a refused one
 unfoldable pub sizesTold : Told FrameHeader → Sizes
 sizesTold (refused r) =
-    record { refusal = numberOf r; length = 0; header = 0; side = 0; main = 0; granules = 0; channels = 0; rate = 0; bitrate = 0 }
+    record { refusal = numberOf r; offset = offsetOf r; length = 0; header = 0; side = 0; main = 0; granules = 0; channels = 0; rate = 0; bitrate = 0 }
 sizesTold (told h) =
     record {
       refusal = 0;
+      offset = 0;
       length = frameLength h;
       header = headerSize h;
       side = sideSize h;

@@ -2,7 +2,8 @@
 // specs/Calls.antt. A frame's bytes are always handed in from the first byte of its header on.
 use crate::rows::ROWS;
 use crate::rows::tell;
-use crate::rows::verdict_number;
+use crate::rows::told_of;
+use crate::rows::verdict_told;
 use derived::bps;
 use derived::channel_count;
 use derived::frame_length;
@@ -11,6 +12,7 @@ use derived::header_size;
 use derived::hz;
 use derived::main_size;
 use derived::number_of;
+use derived::offset_of;
 use derived::side_size;
 use frame::process_frame;
 use header::read_frame_header;
@@ -36,21 +38,30 @@ ghost use Rattle.front_end.specs.Calls.{perRows, FrameDone, frameStep, S
 
 mod rows;
 
-// What a frame answers: 0 or the number of the refusal, the frame's length, how many bytes its main data begins before its own, and the reservoir's
+// What a call answers: 0 or the number of the refusal; after refusal 2 the offset of the first byte that was needed and absent, else 0.
+#[repr(C)]
+pub struct CallTold {
+    pub refusal: u8,
+    pub offset: usize,
+}
+
+// What a frame answers: what a call does, the frame's length, how many bytes its main data begins before its own, and the reservoir's
 // length for the next frame.
 #[repr(C)]
 pub struct FrameTold {
     pub refusal: u8,
+    pub offset: usize,
     pub length: usize,
     pub main_data_begin: usize,
     pub reservoir: usize,
 }
 
-// What a header says of its frame: 0 or the number of the refusal; bytes of the frame, of its header, side information and main
+// What a header says of its frame: what a call does; bytes of the frame, of its header, side information and main
 // data; granules, channels, samples for a second, bits for a second.
 #[repr(C)]
 pub struct Sizes {
     pub refusal: u8,
+    pub offset: usize,
     pub length: usize,
     pub header: usize,
     pub side: usize,
@@ -75,8 +86,10 @@ pub extern "C" fn front_end_frame(
         (now (numbers .exit)) (now (rows .exit)) ⌝ }
 {
     if rows.len() < ROWS {
+        let t = told_of(Refusal::UnfitMemory);
         return FrameTold {
-            refusal: number_of(Refusal::UnfitMemory),
+            refusal: t.refusal,
+            offset: t.offset,
             length: 0,
             main_data_begin: 0,
             reservoir,
@@ -89,8 +102,10 @@ pub extern "C" fn front_end_frame(
     let info = a.info;
     let records = info.slots;
     let begin = info.main_data_begin as usize;
+    let t = tell(verdict, records, slots, rows);
     FrameTold {
-        refusal: tell(verdict, records, slots, rows),
+        refusal: t.refusal,
+        offset: t.offset,
         length: a.length,
         main_data_begin: begin,
         reservoir: kept.length,
@@ -104,7 +119,7 @@ fn slots_under(
     main: &[u8],
     numbers: &mut [i32],
     rows: &mut [u16],
-) -> u8
+) -> CallTold
     requires { ⌜ (perRows ≤ length (now rows)) × (perFrame ≤ length (now numbers)) × (headerOf (now frame) ≡ told h) ⌝ }
     ensures { λ r. ⌜ SlotsDone (now (numbers .entry)) (now (rows .entry)) (recordsIn (now (frame .entry)))
         (slotsStep (now (frame .entry)) (now (main .entry)) (length (now (numbers .entry))) (length (now (rows .entry)))) r (now (numbers .exit))
@@ -114,7 +129,7 @@ fn slots_under(
     let i = a.info;
     let verdict = a.verdict;
     if let Verdict::Refused(why) = verdict {
-        return number_of(why);
+        return told_of(why);
     }
     let s = read_slots(h, i, main, numbers);
     let said = s.verdict;
@@ -130,16 +145,16 @@ pub extern "C" fn front_end_slots(
     main: &[u8],
     numbers: &mut [i32],
     rows: &mut [u16],
-) -> u8
+) -> CallTold
     ensures { λ r. ⌜ SlotsDone (now (numbers .entry)) (now (rows .entry)) (recordsIn (now (frame .entry)))
         (slotsStep (now (frame .entry)) (now (main .entry)) (length (now (numbers .entry))) (length (now (rows .entry)))) r (now (numbers .exit))
         (now (rows .exit)) ⌝ }
 {
     if (rows.len() < ROWS) | (numbers.len() < FRAME_NUMBERS) {
-        return number_of(Refusal::UnfitMemory);
+        return told_of(Refusal::UnfitMemory);
     }
     match read_frame_header(frame) {
-        HeaderAnswer::NoHeader(why) => number_of(why),
+        HeaderAnswer::NoHeader(why) => told_of(why),
         HeaderAnswer::Header(h) => slots_under(h, frame, main, numbers, rows),
     }
 }
@@ -154,7 +169,7 @@ pub extern "C" fn front_end_emptied() -> usize
 }
 
 // The reorder under a header and the side information that follows it.
-fn reorder_under(h: FrameHeader, frame: &[u8], slot: usize, numbers: &mut [i32]) -> u8
+fn reorder_under(h: FrameHeader, frame: &[u8], slot: usize, numbers: &mut [i32]) -> CallTold
     requires { ⌜ (perSlot ≤ length (now numbers)) × (headerOf (now frame) ≡ told h) ⌝ }
     ensures { λ r. ⌜ ReorderDone (now (numbers .entry)) (reorderStep (now (frame .entry)) slot (now (numbers .entry))) r (now (numbers .exit)) ⌝ }
 {
@@ -162,25 +177,25 @@ fn reorder_under(h: FrameHeader, frame: &[u8], slot: usize, numbers: &mut [i32])
     let i = a.info;
     let verdict = a.verdict;
     if let Verdict::Refused(why) = verdict {
-        return number_of(why);
+        return told_of(why);
     }
     if slot < granules(h) * channel_count(h) {
         let r = i.slots[slot];
-        return verdict_number(reorder(h, r, numbers));
+        return verdict_told(reorder(h, r, numbers));
     }
-    number_of(Refusal::MadeUpRecord)
+    told_of(Refusal::MadeUpRecord)
 }
 
 // The reorder of a slot's 576 numbers, by the frame's own record of the slot; only short slots are changed.
 #[no_mangle]
-pub extern "C" fn front_end_reorder(frame: &[u8], slot: usize, numbers: &mut [i32]) -> u8
+pub extern "C" fn front_end_reorder(frame: &[u8], slot: usize, numbers: &mut [i32]) -> CallTold
     ensures { λ r. ⌜ ReorderDone (now (numbers .entry)) (reorderStep (now (frame .entry)) slot (now (numbers .entry))) r (now (numbers .exit)) ⌝ }
 {
     if numbers.len() < SLOT_NUMBERS {
-        return number_of(Refusal::UnfitMemory);
+        return told_of(Refusal::UnfitMemory);
     }
     match read_frame_header(frame) {
-        HeaderAnswer::NoHeader(why) => number_of(why),
+        HeaderAnswer::NoHeader(why) => told_of(why),
         HeaderAnswer::Header(h) => reorder_under(h, frame, slot, numbers),
     }
 }
@@ -193,6 +208,7 @@ fn sizes_of(h: FrameHeader) -> Sizes
     let bitrate = h.bitrate;
     Sizes {
         refusal: 0,
+        offset: 0,
         length: frame_length(h),
         header: header_size(h),
         side: side_size(h),
@@ -212,6 +228,7 @@ pub extern "C" fn front_end_sizes(frame: &[u8]) -> Sizes
     match read_frame_header(frame) {
         HeaderAnswer::NoHeader(why) => Sizes {
             refusal: number_of(why),
+            offset: offset_of(why),
             length: 0,
             header: 0,
             side: 0,

@@ -1,6 +1,9 @@
 // The rows of numbers that tell of slots: for each slot what became of it, its count, its factors, and what its numbers are scaled by.
+use crate::CallTold;
 use derived::number_of;
+use derived::offset_of;
 use fields::scale_values;
+use standard::Refusal;
 use standard::SlotAnswer;
 use standard::SlotOutcome;
 use standard::SlotRecord;
@@ -10,7 +13,7 @@ ghost use mathlib.Core.List.{map};
 ghost use Prim.Native.Nat.{_+_, _≤_};
 ghost use lib.ListN.{length};
 ghost use lib.Seq.{paste};
-ghost use Rattle.front_end.specs.Calls.{perRow, perRows, numberTold, saidNumber, saidCount, slotRow, rowsFrom, rowsAfter};
+ghost use Rattle.front_end.specs.Calls.{perRow, perRows, callTold, saidNumber, saidCount, slotRow, rowsFrom, rowsAfter};
 
 // Where in a row the long factors begin, 22 numbers; the short ones, 39; and what the slot's numbers are scaled by, 7.
 const LONG_AT: usize = 2;
@@ -88,31 +91,50 @@ fn put_rows(rows: &mut [u16], records: [SlotRecord; 4], slots: [SlotAnswer; 4])
     }
 }
 
+// A refusal in numbers.
+pub(crate) fn told_of(why: Refusal) -> CallTold
+    ensures { λ r. ⌜ r ≡ callTold (Verdict.Refused why) ⌝ }
+{
+    CallTold {
+        refusal: number_of(why),
+        offset: offset_of(why),
+    }
+}
+
+fn accepted() -> CallTold
+    ensures { λ r. ⌜ r ≡ callTold Verdict.Accepted ⌝ }
+{
+    CallTold {
+        refusal: 0,
+        offset: 0,
+    }
+}
+
 // A verdict in numbers; the rows of an accepted call are written.
 pub(crate) fn tell(
     verdict: Verdict,
     records: [SlotRecord; 4],
     slots: [SlotAnswer; 4],
     rows: &mut [u16],
-) -> u8
+) -> CallTold
     requires { ⌜ perRows ≤ length (now rows) ⌝ }
-    ensures { λ r. ⌜ (r ≡ numberTold verdict) × (now (rows .exit) ≡ rowsAfter verdict records slots (now (rows .entry))) ⌝ }
+    ensures { λ r. ⌜ (r ≡ callTold verdict) × (now (rows .exit) ≡ rowsAfter verdict records slots (now (rows .entry))) ⌝ }
 {
     match verdict {
-        Verdict::Refused(why) => number_of(why),
+        Verdict::Refused(why) => told_of(why),
         Verdict::Accepted => {
             put_rows(rows, records, slots);
-            0
+            accepted()
         }
     }
 }
 
 // A verdict in numbers.
-pub(crate) fn verdict_number(verdict: Verdict) -> u8
-    ensures { λ r. ⌜ r ≡ numberTold verdict ⌝ }
+pub(crate) fn verdict_told(verdict: Verdict) -> CallTold
+    ensures { λ r. ⌜ r ≡ callTold verdict ⌝ }
 {
     match verdict {
-        Verdict::Refused(why) => number_of(why),
-        Verdict::Accepted => 0,
+        Verdict::Refused(why) => told_of(why),
+        Verdict::Accepted => accepted(),
     }
 }

@@ -16,6 +16,7 @@ ghost use Prim.Native.Nat.{_<_, _/_, _%_};
 ghost use lib.Dec.{leb};
 ghost use lib.ListN.{length};
 ghost use Rattle.standard.specs.Rows.{member};
+ghost use Rattle.standard.specs.Told.{refused};
 ghost use Rattle.standard.specs.Refusals.{toldHeader};
 ghost use Rattle.standard.specs.Header.{«bitrates», «rates», sameBitrate, sameRate, isHeader, noHeader};
 ghost use Rattle.standard.specs.Header.{versionOf, channelsOf, emphasisOf, «fields», lastBytes, secondByte, headerOf};
@@ -144,6 +145,15 @@ fn fields(b1: u8, b2: u8, b3: u8) -> FrameHeader
     }
 }
 
+// The bytes of a header are needed from the first on: the first absent one stands where those that are there end.
+fn no_bytes(frame: &[u8]) -> HeaderAnswer
+    requires { ⌜ length (now frame) < 6 ⌝ }
+    ensures { λ r. ⌜ toldHeader r ≡ refused (Refusal.AbsentBytes (length (now (frame .entry)))) ⌝ }
+{
+    let offset = frame.len() as u16;
+    HeaderAnswer::NoHeader(Refusal::AbsentBytes { offset })
+}
+
 // The third and fourth byte. The CRC's two bytes are needed last of all.
 fn last_bytes(frame: &[u8]) -> HeaderAnswer
     requires { ⌜ 3 < length (now frame) ⌝ }
@@ -155,14 +165,17 @@ fn last_bytes(frame: &[u8]) -> HeaderAnswer
     if b2 / 16 == 0 {
         return HeaderAnswer::NoHeader(Refusal::FreeBitrate);
     }
-    if b2 / 16 == 15 || b2 / 4 % 4 == 3 {
-        return HeaderAnswer::NoHeader(Refusal::ForbiddenRate);
+    if b2 / 16 == 15 {
+        return HeaderAnswer::NoHeader(Refusal::ForbiddenBitrate);
+    }
+    if b2 / 4 % 4 == 3 {
+        return HeaderAnswer::NoHeader(Refusal::ReservedRate);
     }
     if b3 % 4 == 2 {
         return HeaderAnswer::NoHeader(Refusal::ReservedEmphasis);
     }
     if b1 % 2 == 0 && frame.len() < 6 {
-        return HeaderAnswer::NoHeader(Refusal::AbsentBytes);
+        return no_bytes(frame);
     }
     let h = fields(b1, b2, b3);
     HeaderAnswer::Header(h)
@@ -187,7 +200,7 @@ fn second_byte(frame: &[u8]) -> HeaderAnswer
         return HeaderAnswer::NoHeader(Refusal::OtherLayer);
     }
     if frame.len() < 4 {
-        return HeaderAnswer::NoHeader(Refusal::AbsentBytes);
+        return no_bytes(frame);
     }
     last_bytes(frame)
 }
@@ -197,13 +210,13 @@ pub fn read_frame_header(frame: &[u8]) -> HeaderAnswer
     ensures { λ r. ⌜ toldHeader r ≡ headerOf (now (frame .entry)) ⌝ }
 {
     if frame.len() < 1 {
-        return HeaderAnswer::NoHeader(Refusal::AbsentBytes);
+        return no_bytes(frame);
     }
     if frame[0] != 255 {
         return HeaderAnswer::NoHeader(Refusal::NoSync);
     }
     if frame.len() < 2 {
-        return HeaderAnswer::NoHeader(Refusal::AbsentBytes);
+        return no_bytes(frame);
     }
     second_byte(frame)
 }

@@ -13,7 +13,7 @@ use Rattle.standard.specs.Bits.{bits, field, fieldAt}
 use Rattle.standard.specs.BitsLaws.{one-le, drop-bits, take-bits, field-bits}
 use Rattle.standard.specs.Header.{isHeader, isMpeg1, isTwo, headerSize, sideBytes}
 use Rattle.standard.specs.Record.{recordWidth}
-use Rattle.standard.specs.SideInfo.{beginWidth, sharesAt, shareCount, slotCount, recordsOf, thenSide, sideIn, sideFrom, sideOf}
+use Rattle.standard.specs.SideInfo.{beginWidth, sharesAt, shareCount, slotCount, recordsOf, thenSide, absentFrom, sideIn, sideFrom, sideOf}
 use Rattle.standard.specs.declared.FrameHeader.{FrameHeader}
 use Rattle.standard.specs.declared.SlotRecord.{SlotRecord}
 use Rattle.standard.specs.declared.Refusal.{Refusal}
@@ -125,7 +125,7 @@ module _ (mpeg1 two : Bool) (from : ℕ) (s : List ℕ) {l : Layout} (e : l ≡ 
   size-is : from + l .size ≡ from + sideBytes mpeg1 two
   size-is = ap (λ (k : Layout). from + k .size) e
 
-  pub side-short : length s < from + l .size → sideFrom mpeg1 two from s ≡ refused AbsentBytes
+  pub side-short : length s < from + l .size → sideFrom mpeg1 two from s ≡ refused (AbsentBytes (absentFrom from (length s)))
   unfolding sideFrom
   side-short h = picked _ (lt-ltb (length s) (from + sideBytes mpeg1 two) (rw size-is at h))
 

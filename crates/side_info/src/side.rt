@@ -11,13 +11,13 @@ use standard::Verdict;
 ghost use mathlib.Core.Path.{_≡_};
 ghost use mathlib.Core.Bool.{false};
 ghost use mathlib.Core.List.{_++_};
-ghost use Prim.Native.Nat.{_-_, _*_, _≤_};
+ghost use Prim.Native.Nat.{_-_, _*_, _≤_, _<_};
 ghost use lib.ListN.{replicate};
 ghost use Rattle.standard.specs.Told.{Told, refused};
 ghost use Rattle.standard.specs.Refusals.{Answers};
 ghost use Rattle.standard.specs.Bits.{bits};
 ghost use Rattle.standard.specs.Header.{sideBytes};
-ghost use Rattle.standard.specs.SideInfo.{noSide, sideIn, sideFrom};
+ghost use Rattle.standard.specs.SideInfo.{noSide, absentFrom, sideIn, sideFrom};
 
 // A refusal beside blank side information.
 pub fn no_side(why: Refusal) -> SideInfoAnswer
@@ -76,6 +76,17 @@ pub(crate) fn read_bits(s: &[u8], at: usize, mpeg1: bool, two: bool) -> SideInfo
     }
 }
 
+// Of the bytes from a place on, n bytes being there, the first that is absent.
+fn absent_from(from: usize, n: usize) -> u16
+    requires { ⌜ (from < 65536) × (n < 65536) ⌝ }
+    ensures { λ r. ⌜ r ≡ absentFrom from n ⌝ }
+{
+    if n < from {
+        return from as u16;
+    }
+    n as u16
+}
+
 // The side information after a header of so many bytes.
 pub(crate) fn read_after(frame: &[u8], from: usize, mpeg1: bool, two: bool) -> SideInfoAnswer
     requires { ⌜ from ≤ 8 ⌝ }
@@ -83,7 +94,8 @@ pub(crate) fn read_after(frame: &[u8], from: usize, mpeg1: bool, two: bool) -> S
 {
     let l = layout_of(mpeg1, two);
     if frame.len() < from + l.size {
-        return no_side(Refusal::AbsentBytes);
+        let offset = absent_from(from, frame.len());
+        return no_side(Refusal::AbsentBytes { offset });
     }
     read_bits(frame, 8 * from, mpeg1, two)
 }

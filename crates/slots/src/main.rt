@@ -104,7 +104,7 @@ fn at_end(at: usize, input: Input) -> Place {
 fn is_unread(why: Refusal, input: Input) -> bool {
     match input {
         Input::Failed => {
-            if let Refusal::AbsentBytes = why {
+            if let Refusal::AbsentBytes { offset: _ } = why {
                 true
             } else {
                 false

@@ -56,7 +56,7 @@ withTurn h i (reached bytes) = fullStep h i bytes
 unfoldable pub withSide : FrameHeader → List ℕ → List ℕ → Told SideInfo → Step
 withSide h s old (refused r) = noStep r
 withSide h s old (told i) =
-    pick (ltb (length s) (frameLength h)) (noStep AbsentBytes)
+    pick (ltb (length s) (frameLength h)) (noStep (AbsentBytes (length s)))
     (withTurn h i (turnOf (i .«main_data_begin») old (mainOf h s)))
 
 unfoldable pub withHeader : List ℕ → List ℕ → Told FrameHeader → Step

@@ -74,7 +74,7 @@ module _ (s old : List ℕ) where
     frame-no-side f = ap (withHeader s old) e ∙ ap (withSide h s old) f
 
     module _ {i : SideInfo} (f : sideOf h s ≡ told i) where
-      pub frame-absent : length s < frameLength h → frameOf s old ≡ noStep AbsentBytes
+      pub frame-absent : length s < frameLength h → frameOf s old ≡ noStep (AbsentBytes (length s))
       unfolding frameOf withHeader withSide
       frame-absent l = ap (withHeader s old) e ∙ ap (withSide h s old) f ∙ picked _ (lt-ltb (length s) (frameLength h) l)
 

@@ -19,7 +19,7 @@ use Rattle.standard.specs.declared.BitRate.the-variants.{Kbps8, Kbps16, 
 use Rattle.standard.specs.declared.SampleRate.{SampleRate}
 use Rattle.standard.specs.declared.SampleRate.the-variants.{Hz8000, Hz11025, Hz12000, Hz16000, Hz22050, Hz24000, Hz32000, Hz44100, Hz48000}
 use Rattle.standard.specs.declared.FrameHeader.{FrameHeader}
-use Rattle.standard.specs.declared.Refusal.the-variants.{AbsentBytes, NoSync, ReservedVersion, ReservedLayer, OtherLayer, FreeBitrate, ForbiddenRate, ReservedEmphasis}
+use Rattle.standard.specs.declared.Refusal.the-variants.{AbsentBytes, NoSync, ReservedVersion, ReservedLayer, OtherLayer, FreeBitrate, ForbiddenBitrate, ReservedRate, ReservedEmphasis}
 
 -- ---- the tables of the header's fields
 -- bits for a second
@@ -72,27 +72,27 @@ rates Mpeg25 = Hz11025 ∷ Hz12000 ∷ Hz8000 ∷ []
 
 -- ---- the bits of the four bytes, by name (11172-3, 2.4.1.3)
 -- the first byte is sync, and so are the top three bits of the second; MPEG-2.5 takes the twelfth bit of sync for its version
-abbrev syncByte : ℕ
+abbrev pub syncByte : ℕ
 syncByte = 0xFF
 
-abbrev syncLeast : ℕ
+abbrev pub syncLeast : ℕ
 syncLeast = 0xE0
 
 -- the second byte: ID, with the bit before it; layer; protection_bit
-abbrev ID : ℕ → ℕ
+abbrev pub ID : ℕ → ℕ
 ID b1 = b1 / 8 % 4
 
-abbrev layer : ℕ → ℕ
+abbrev pub layer : ℕ → ℕ
 layer b1 = b1 / 2 % 4
 
-abbrev protectionBit : ℕ → ℕ
+abbrev pub protectionBit : ℕ → ℕ
 protectionBit b1 = b1 % 2
 
 -- the third: bitrate_index, sampling_frequency, padding_bit (and private_bit, which is skipped)
-abbrev bitrateIndex : ℕ → ℕ
+abbrev pub bitrateIndex : ℕ → ℕ
 bitrateIndex b2 = b2 / 16
 
-abbrev samplingFrequency : ℕ → ℕ
+abbrev pub samplingFrequency : ℕ → ℕ
 samplingFrequency b2 = b2 / 4 % 4
 
 abbrev paddingBit : ℕ → ℕ
@@ -114,7 +114,7 @@ copyrightBit b3 = b3 / 8 % 2
 abbrev originalBit : ℕ → ℕ
 originalBit b3 = b3 / 4 % 2
 
-abbrev emphasisBits : ℕ → ℕ
+abbrev pub emphasisBits : ℕ → ℕ
 emphasisBits b3 = b3 % 4
 
 -- ---- what they say
@@ -146,15 +146,17 @@ fields b1 b2 b3 =
       emphasis = emphasisOf (emphasisBits b3);
     }
 
--- ---- reading a header, byte by byte: the first fault decides
+-- ---- reading a header, byte by byte: the first fault decides. Its bytes are needed from the first on, so the first absent one stands where
+-- those that are there end
 -- the third and fourth byte, needed together
 unfoldable pub lastBytes : List ℕ → Told FrameHeader
 lastBytes s =
     pick (eqb (bitrateIndex (getD s 2 0)) 0) (refused FreeBitrate)
-    (pick (eqb (bitrateIndex (getD s 2 0)) 15 || eqb (samplingFrequency (getD s 2 0)) 3) (refused ForbiddenRate)
+    (pick (eqb (bitrateIndex (getD s 2 0)) 15) (refused ForbiddenBitrate)
+    (pick (eqb (samplingFrequency (getD s 2 0)) 3) (refused ReservedRate)
     (pick (eqb (emphasisBits (getD s 3 0)) 2) (refused ReservedEmphasis)
-    (pick (eqb (protectionBit (getD s 1 0)) 0 && leb (length s) 5) (refused AbsentBytes)
-    (told (fields (getD s 1 0) (getD s 2 0) (getD s 3 0))))))
+    (pick (eqb (protectionBit (getD s 1 0)) 0 && leb (length s) 5) (refused (AbsentBytes (length s)))
+    (told (fields (getD s 1 0) (getD s 2 0) (getD s 3 0)))))))
 
 unfoldable pub secondByte : List ℕ → Told FrameHeader
 secondByte s =
@@ -162,13 +164,13 @@ secondByte s =
     (pick (eqb (ID (getD s 1 0)) 1) (refused ReservedVersion)
     (pick (eqb (layer (getD s 1 0)) 0) (refused ReservedLayer)
     (pick (not (eqb (layer (getD s 1 0)) 1)) (refused OtherLayer)
-    (pick (leb (length s) 3) (refused AbsentBytes) (lastBytes s)))))
+    (pick (leb (length s) 3) (refused (AbsentBytes (length s))) (lastBytes s)))))
 
 unfoldable pub headerOf : List ℕ → Told FrameHeader
 headerOf s =
-    pick (leb (length s) 0) (refused AbsentBytes)
+    pick (leb (length s) 0) (refused (AbsentBytes (length s)))
     (pick (not (eqb (getD s 0 0) syncByte)) (refused NoSync)
-    (pick (leb (length s) 1) (refused AbsentBytes) (secondByte s)))
+    (pick (leb (length s) 1) (refused (AbsentBytes (length s))) (secondByte s)))
 
 -- ---- which headers bytes read to: those whose bitrate and rate are their version's
 unfoldable pub sameBitrate : BitRate → BitRate → Bool

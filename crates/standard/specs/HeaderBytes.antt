@@ -2,7 +2,7 @@
 -- One way, the header's own bytes are written down and read back field by field, whatever follows them; the other, each of the fourteen
 -- and three places that a field can name holds a member.
 use mathlib.Core.Path.{_≡_, refl, ap, subst, _∙_}
-use mathlib.Core.Bool.{Bool, true, false, not, _&&_, _||_}
+use mathlib.Core.Bool.{Bool, true, false, not, _&&_}
 use mathlib.Core.Logic.{_↔_}
 use mathlib.Core.List.{List, [], _∷_, _++_}
 use Prim.Native.Nat.{ℕ, zero, suc, _+_, _-_, _*_, _/_, _%_, _<_, _≤_}
@@ -11,7 +11,7 @@ use borrow.Author.Tests.{eqb-false, ne-eqb, le-ltb, lt-leb}
 use lib.ListN.{length, getD, length-append}
 use lib.Dec.{leb, eqb}
 use Rattle.standard.specs.Told.{told, pick}
-use Rattle.standard.specs.ToldLaws.{passed, no-refusal, told-is, both-of, both, neither-of, neither}
+use Rattle.standard.specs.ToldLaws.{passed, no-refusal, told-is, both-of, both}
 use Rattle.standard.specs.Bits.{one}
 use Rattle.standard.specs.BitsLaws.{one-le, one-is}
 use Rattle.standard.specs.Rows.{member, place}
@@ -230,13 +230,13 @@ module _ (h : FrameHeader) (known : isHeader h ≡ true) where
       ∙ (passed _ (ap (λ (n : ℕ). not (eqb n 1)) (second-is .1))
       ∙ (passed _ (header-there h rest 3 (omega arith))
       ∙ (passed _ (ne-eqb (third h / 16) 0 (λ e. omega (arith, third-is)))
-      ∙ (passed _
-      (neither (ne-eqb (third h / 16) 15 (λ e. omega (arith, bitrate-place, third-is))) (ne-eqb (third h / 4 % 4) 3 (λ e. omega (arith, rate-place, third-is))))
+      ∙ (passed _ (ne-eqb (third h / 16) 15 (λ e. omega (arith, bitrate-place, third-is)))
+      ∙ (passed _ (ne-eqb (third h / 4 % 4) 3 (λ e. omega (arith, rate-place, third-is)))
       ∙ (passed _ (ap (λ (n : ℕ). eqb n 2) (fourth-is .5) ∙ emphasis-ok (h .emphasis))
       ∙ (passed _
       (ap (λ (b : Bool). b && leb (length (headerBytes h ++ rest)) 5) (ap (λ (n : ℕ). eqb n 0) (second-is .2) ∙ one-not (h .crc))
       ∙ crc-there (h .crc) (length (headerBytes h ++ rest)) (simp length-append (omega (arith, crc-length (h .crc)))))
-      ∙ ap told fields-back)))))))))))
+      ∙ ap told fields-back))))))))))))
 
   pub bytes-header : Bytes (headerBytes h)
   unfolding headerBytes
@@ -260,11 +260,11 @@ last-known : (s : List ℕ) (h : FrameHeader) → Bytes s → lastBytes s ≡ to
 unfolding lastBytes
 last-known s h b e =
     let p = no-refusal (eqb (getD s 2 0 / 16) 0) _ _ h e in
-    let q = no-refusal (eqb (getD s 2 0 / 16) 15 || eqb (getD s 2 0 / 4 % 4) 3) _ _ h (p .1) in
-    let r = neither-of (eqb (getD s 2 0 / 16) 15) (eqb (getD s 2 0 / 4 % 4) 3) (q .0) in
-    let u = no-refusal _ _ _ h (no-refusal _ _ _ h (q .1) .1) .1 in
+    let q = no-refusal (eqb (getD s 2 0 / 16) 15) _ _ h (p .1) in
+    let r = no-refusal (eqb (getD s 2 0 / 4 % 4) 3) _ _ h (q .1) in
+    let u = no-refusal _ _ _ h (no-refusal _ _ _ h (r .1) .1) .1 in
     subst (λ (x : FrameHeader). isHeader x ≡ true) (told-is u)
-    (fields-known (getD s 1 0) (getD s 2 0) (getD s 3 0) (b 2) (eqb-false _ _ (p .0)) (eqb-false _ _ (r .0)) (eqb-false _ _ (r .1)))
+    (fields-known (getD s 1 0) (getD s 2 0) (getD s 3 0) (b 2) (eqb-false _ _ (p .0)) (eqb-false _ _ (q .0)) (eqb-false _ _ (r .0)))
 
 second-known : (s : List ℕ) (h : FrameHeader) → Bytes s → secondByte s ≡ told h → isHeader h ≡ true
 unfolding secondByte

@@ -2,7 +2,6 @@
 -- The sizes rest on two computed tests, one over all bitrates and rates and one over those of a version.
 use mathlib.Core.Path.{_≡_, refl, sym, ap, subst, _∙_}
 use mathlib.Core.Bool.{Bool, true, false, _&&_}
-use mathlib.Core.Logic.{_⊎_, inl, inr}
 use mathlib.Core.List.{List, [], _∷_, map}
 use Prim.Native.Nat.{ℕ, _+_, _*_, _/_, _^_, _≤_, _<_}
 use native.Mathlib.Omega.{arith}
@@ -172,19 +171,17 @@ frame-length-is h = omega (arith, size-from h, header-size h)
 pub frame-length-any : (h : FrameHeader) → frameLength h ≤ 5761
 frame-length-any h = omega (arith, frame-length-is h, any-size (h .version) (h .bitrate) (h .rate), one-le (h .padding))
 
-side-bytes : (mpeg1 two : Bool) → (sideBytes mpeg1 two ≡ 9) ⊎ (sideBytes mpeg1 two ≡ 17) ⊎ (sideBytes mpeg1 two ≡ 32)
-side-bytes true true = inr (inr refl)
-side-bytes true false = inr (inl refl)
-side-bytes false true = inr (inl refl)
-side-bytes false false = inl refl
-
--- ---- of a header that bytes read to
 side-least : (mpeg1 two : Bool) → (9 ≤ sideBytes mpeg1 two) × (sideBytes mpeg1 two ≤ sideBytes mpeg1 true)
 side-least true true = (omega arith, omega arith)
 side-least true false = (omega arith, omega arith)
 side-least false true = (omega arith, omega arith)
 side-least false false = (omega arith, omega arith)
 
+pub side-size : (h : FrameHeader) → 9 ≤ sideSize h
+unfolding sideSize
+side-size h = side-least (isMpeg1 (h .version)) (isTwo (h .channels)) .0
+
+-- ---- of a header that bytes read to
 module _ (h : FrameHeader) (known : isHeader h ≡ true) where
   pub frame-length-le : frameLength h ≤ 1441
   frame-length-le = omega (arith, frame-length-is h, own-size h known, one-le (h .padding))

@@ -17,6 +17,7 @@ pub mod Slots
 pub mod Reservoir
 pub mod Frame
 pub mod Reorder
+pub mod Needs
 pub mod Worked
 pub mod ToldLaws
 pub mod BitsLaws
@@ -44,3 +45,4 @@ pub mod ReservoirLaws
 pub mod ReorderLaws
 pub mod FrameLaws
 pub mod StepLaws
+pub mod NeedsLaws

@@ -5,9 +5,9 @@ use Prim.Native.Nat.{ℕ}
 use lib.ListN.{getD}
 use Rattle.standard.specs.Told.{Told, refused, told, toldOr, verdictOf}
 use Rattle.standard.specs.ToldLaws.{clash}
-use Rattle.standard.specs.Refusals.{numberOf, toldHeader, Answers}
+use Rattle.standard.specs.Refusals.{numberOf, offsetOf, toldHeader, Answers}
 use Rattle.standard.specs.declared.Refusal.{Refusal}
-use Rattle.standard.specs.declared.Refusal.the-variants.{UnfitMemory, MadeUpRecord, AbsentBytes, NoSync, ReservedVersion, ReservedLayer, OtherLayer, FreeBitrate, ForbiddenRate, ReservedEmphasis, TooManyPairs, ForbiddenBlock, MixedBlock, ShortReservoir, MissingBits, FactorOverrun, LostShare, RegionOverrun, PairOverrun, NoCodeword}
+use Rattle.standard.specs.declared.Refusal.the-variants.{UnfitMemory, MadeUpRecord, AbsentBytes, NoSync, ReservedVersion, ReservedLayer, OtherLayer, FreeBitrate, ForbiddenBitrate, ReservedRate, ReservedEmphasis, TooManyPairs, ForbiddenBlock, MixedBlock, ShortReservoir, MissingBits, FactorOverrun, LostShare, RegionOverrun, PairOverrun, NoCodeword}
 use Rattle.standard.specs.declared.Verdict.{Verdict}
 use Rattle.standard.specs.declared.Verdict.the-variants.{Accepted, Refused}
 use Rattle.standard.specs.declared.HeaderAnswer.{HeaderAnswer}
@@ -61,25 +61,26 @@ refused-for (told a) e = unlike (sym e)
 pub answered-refused : {A : Type 0} {blank a : A} {v : Verdict} {r : Refusal} {t : Told A} → Answers blank v a t → v ≡ Refused r → t ≡ refused r
 answered-refused {A} {t = t} q e = refused-for t (sym (q .verdict) ∙ e)
 
--- ---- a number tells the reason
--- the refusals by number; numbers without one are filled up
-refusals : List Refusal
-refusals =
-    NoSync ∷ UnfitMemory ∷ AbsentBytes ∷ NoSync ∷ ReservedVersion ∷ ReservedLayer ∷ OtherLayer ∷ FreeBitrate ∷ ForbiddenRate ∷ ReservedEmphasis ∷
-    TooManyPairs ∷ ForbiddenBlock ∷ MixedBlock ∷ ShortReservoir ∷ MadeUpRecord ∷ NoSync ∷ NoSync ∷ NoSync ∷ NoSync ∷ NoSync ∷
+-- ---- number and offset together tell the reason
+-- the refusals by number, with an offset for the one that tells it; numbers without a refusal are filled up
+refusals : ℕ → List Refusal
+refusals n =
+    NoSync ∷ UnfitMemory ∷ AbsentBytes n ∷ NoSync ∷ ReservedVersion ∷ ReservedLayer ∷ OtherLayer ∷ FreeBitrate ∷ ForbiddenBitrate ∷ ReservedEmphasis ∷
+    TooManyPairs ∷ ForbiddenBlock ∷ MixedBlock ∷ ShortReservoir ∷ MadeUpRecord ∷ ReservedRate ∷ NoSync ∷ NoSync ∷ NoSync ∷ NoSync ∷
     MissingBits ∷ FactorOverrun ∷ LostShare ∷ RegionOverrun ∷ PairOverrun ∷ NoCodeword ∷ []
 
-back : (r : Refusal) → getD refusals (numberOf r) NoSync ≡ r
+back : (r : Refusal) → getD (refusals (offsetOf r)) (numberOf r) NoSync ≡ r
 unfolding refusals
+back (AbsentBytes n) = refl
 back UnfitMemory = refl
 back MadeUpRecord = refl
-back AbsentBytes = refl
 back NoSync = refl
 back ReservedVersion = refl
 back ReservedLayer = refl
 back OtherLayer = refl
 back FreeBitrate = refl
-back ForbiddenRate = refl
+back ForbiddenBitrate = refl
+back ReservedRate = refl
 back ReservedEmphasis = refl
 back TooManyPairs = refl
 back ForbiddenBlock = refl
@@ -92,10 +93,10 @@ back RegionOverrun = refl
 back PairOverrun = refl
 back NoCodeword = refl
 
-pub one-number : (r q : Refusal) → numberOf r ≡ numberOf q → r ≡ q
-one-number r q e = sym (back r) ∙ ap (λ (n : ℕ). getD refusals n NoSync) e ∙ back q
+pub one-number : (r q : Refusal) → numberOf r ≡ numberOf q → offsetOf r ≡ offsetOf q → r ≡ q
+one-number r q e f = sym (back r) ∙ (λ j. getD (refusals (f j)) (e j) NoSync) ∙ back q
 
 -- 13 is told of a short reservoir alone
 pub short-only : (r : Refusal) → numberOf r ≡ 13 → r ≡ ShortReservoir
 unfolding refusals
-short-only r e = sym (back r) ∙ ap (λ (n : ℕ). getD refusals n NoSync) e
+short-only r e = sym (back r) ∙ ap (λ (n : ℕ). getD (refusals (offsetOf r)) n NoSync) e

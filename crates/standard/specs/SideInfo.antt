@@ -66,10 +66,14 @@ unfoldable pub sideIn : Bool → Bool → List Bool → Told SideInfo
 sideIn mpeg1 two b =
     thenSide mpeg1 two b (recordsOf mpeg1 (slotCount mpeg1 two) (drop (sharesAt mpeg1 two + shareCount mpeg1 two) b))
 
+-- of the bytes from a place on, n bytes being there, the first that is absent
+unfoldable pub absentFrom : ℕ → ℕ → ℕ
+absentFrom from n = pick (ltb n from) from n
+
 -- from the frame's bytes, of which the header takes the first `from`
 unfoldable pub sideFrom : Bool → Bool → ℕ → List ℕ → Told SideInfo
 sideFrom mpeg1 two from s =
-    pick (ltb (length s) (from + sideBytes mpeg1 two)) (refused AbsentBytes)
+    pick (ltb (length s) (from + sideBytes mpeg1 two)) (refused (AbsentBytes (absentFrom from (length s))))
     (sideIn mpeg1 two (bits s (8 * from) (8 * sideBytes mpeg1 two)))
 
 unfoldable pub sideOf : FrameHeader → List ℕ → Told SideInfo

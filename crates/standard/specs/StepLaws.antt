@@ -2,18 +2,19 @@
 -- or all slots read. So refused frames leave what they must, the reservoir never outgrows 1,931 bytes, and a step knows of the lent bytes only
 -- the stated first ones.
 use mathlib.Core.Path.{_≡_, refl, sym, ap, _∙_}
-use mathlib.Core.Bool.{Bool, true, false, not, _||_}
+use mathlib.Core.Bool.{Bool, true, false, not, _&&_, _||_}
 use mathlib.Core.List.{List, _++_}
 use Prim.Native.Nat.{ℕ, zero, suc, _+_, _-_, _*_, _≤_, _<_}
 use native.Mathlib.Decide.{decLe}
 use native.Mathlib.Omega.{arith}
-use borrow.Author.Tests.{le-ltb, lt-ltb}
-use lib.Dec.{ltb, eqb}
+use borrow.Author.Tests.{le-ltb, lt-ltb, ltb-true, leb-true, ne-eqb}
+use lib.Dec.{ltb, leb, eqb}
 use lib.ListN.{length, take, drop, length-append, length-take, length-drop}
 use Rattle.standard.specs.Told.{Told, refused, told, pick}
-use Rattle.standard.specs.ToldLaws.{picked, passed, never, either-way}
+use Rattle.standard.specs.ToldLaws.{picked, passed, never, both-of, either-way}
+use Rattle.standard.specs.Bits.{bits}
 use Rattle.standard.specs.Written.{Bytes}
-use Rattle.standard.specs.Header.{lastBytes, secondByte, headerOf, headerSize, sideSize, mainSize, frameLength}
+use Rattle.standard.specs.Header.{isMpeg1, isTwo, lastBytes, secondByte, headerOf, headerSize, sideBytes, sideSize, mainSize, frameLength}
 use Rattle.standard.specs.HeaderBytes.{header-known}
 use Rattle.standard.specs.HeaderLaws.{reservoir-le}
 use Rattle.standard.specs.Record.{recordIn, recordOf, recordWidth}
@@ -31,49 +32,88 @@ use Rattle.standard.specs.declared.Refusal.the-variants.{UnfitMemory, Ab
 use Rattle.standard.specs.declared.Refusal.{Refusal}
 use Rattle.standard.specs.Refusals.{numberOf}
 
--- ---- neither header nor side information is refused by 13
-other : {A : Type 0} → Told A → Bool
-other (refused r) = not (eqb (numberOf r) 13)
-other (told a) = true
+-- ---- what a reading is refused by: only by numbers that pass a test
+unfoldable pub only : {A : Type 0} → (ℕ → Bool) → Told A → Bool
+only p (refused r) = p (numberOf r)
+only p (told a) = true
 
-pick-other : {A : Type 0} (b : Bool) (r : Refusal) (t : Told A) → not (eqb (numberOf r) 13) ≡ true → other t ≡ true → other (pick b (refused r) t) ≡ true
-unfolding pick other
-pick-other true k t e f = e
-pick-other false k t e f = f
+pick-only : {A : Type 0} (p : ℕ → Bool) (b : Bool) (r : Refusal) (t : Told A) → p (numberOf r) ≡ true → only p t ≡ true
+    → only p (pick b (refused r) t) ≡ true
+unfolding pick only
+pick-only p true r t e f = e
+pick-only p false r t e f = f
 
-header-other : (s : List ℕ) → other (headerOf s) ≡ true
-unfolding headerOf secondByte lastBytes other
+only-more : {A : Type 0} (p q : ℕ → Bool) → ((n : ℕ) → p n ≡ true → q n ≡ true) → (t : Told A) → only p t ≡ true → only q t ≡ true
+unfolding only
+only-more p q f (refused r) e = f (numberOf r) e
+only-more p q f (told a) e = refl
+
+pub only-of : {A : Type 0} (p : ℕ → Bool) {r : Refusal} {t : Told A} → t ≡ refused r → only p t ≡ true → p (numberOf r) ≡ true
+unfolding only
+only-of p e f = sym (ap (only p) e) ∙ f
+
+-- the bits of side information by 10 to 12
+abbrev ofRecord : ℕ → Bool
+ofRecord n = leb 10 n && leb n 12
+
+record-only : (mpeg1 : Bool) (b : List Bool) → only ofRecord (recordOf mpeg1 b) ≡ true
+unfolding recordOf recordIn only
+record-only mpeg1 b =
+    pick-only _ _ _ _ refl
+    (either-way (λ (t : Told SlotRecord). only ofRecord t ≡ true) _ _ _ (λ e. refl) (λ e. pick-only _ _ _ _ refl (pick-only _ _ _ _ refl refl)))
+
+then-only : (p : ℕ → Bool) (t : Told SlotRecord) (ts : Told (List SlotRecord)) → only p t ≡ true → only p ts ≡ true → only p (thenRecords t ts) ≡ true
+unfolding thenRecords only
+then-only p (refused k) ts e f = e
+then-only p (told r) (refused k) e f = f
+then-only p (told r) (told rs) e f = refl
+
+records-only : (mpeg1 : Bool) (n : ℕ) (b : List Bool) → only ofRecord (recordsOf mpeg1 n b) ≡ true
+unfolding recordsOf only
+records-only mpeg1 zero b = refl
+records-only mpeg1 (suc n) b = then-only ofRecord _ _ (record-only mpeg1 _) (records-only mpeg1 n (drop (recordWidth mpeg1) b))
+
+slots-only : (p : ℕ → Bool) (mpeg1 two : Bool) (b : List Bool) (t : Told (List SlotRecord)) → only p t ≡ true → only p (thenSide mpeg1 two b t) ≡ true
+unfolding thenSide only
+slots-only p mpeg1 two b (refused k) e = e
+slots-only p mpeg1 two b (told rs) e = refl
+
+side-in-only : (mpeg1 two : Bool) (b : List Bool) → only ofRecord (sideIn mpeg1 two b) ≡ true
+unfolding sideIn
+side-in-only mpeg1 two b = slots-only ofRecord mpeg1 two b _ (records-only mpeg1 _ _)
+
+-- neither header nor side information by 13
+abbrev pub but : ℕ → ℕ → Bool
+but k n = not (eqb n k)
+
+but-is : (k : ℕ) → ltb k 10 || ltb 12 k ≡ true → (n : ℕ) → ofRecord n ≡ true → but k n ≡ true
+but-is k e n f =
+    let r = both-of _ _ f in
+    let low = leb-true 10 n (r .0) in
+    let high = leb-true n 12 (r .1) in
+    ap not (ne-eqb n k (λ g. go (ltb k 10) refl low high g))
+  where
+    go : (b : Bool) → ltb k 10 ≡ b → 10 ≤ n → n ≤ 12 → n ≡ k → ⊥
+    go true h low high g = omega (arith, ltb-true k 10 h)
+    go false h low high g = omega (arith, ltb-true 12 k (sym (ap (λ (b : Bool). b || ltb 12 k) h) ∙ e))
+
+pub side-in-but : (k : ℕ) → ltb k 10 || ltb 12 k ≡ true → (mpeg1 two : Bool) (b : List Bool) → only (but k) (sideIn mpeg1 two b) ≡ true
+side-in-but k e mpeg1 two b = only-more ofRecord (but k) (but-is k e) (sideIn mpeg1 two b) (side-in-only mpeg1 two b)
+
+header-other : (s : List ℕ) → only (but 13) (headerOf s) ≡ true
+unfolding headerOf secondByte lastBytes only
 header-other s =
-    pick-other _ _ _ refl (pick-other _ _ _ refl (pick-other _ _ _ refl
-    (pick-other _ _ _ refl (pick-other _ _ _ refl (pick-other _ _ _ refl (pick-other _ _ _ refl (pick-other _ _ _ refl
-    (pick-other _ _ _ refl (pick-other _ _ _ refl (pick-other _ _ _ refl (pick-other _ _ _ refl refl)))))))))))
+    let p = pick-only {A = FrameHeader} (but 13) in
+    p _ _ _ refl (p _ _ _ refl (p _ _ _ refl (p _ _ _ refl (p _ _ _ refl (p _ _ _ refl (p _ _ _ refl (p _ _ _ refl (p _ _ _ refl (p _ _ _ refl
+    (p _ _ _ refl (p _ _ _ refl (p _ _ _ refl refl))))))))))))
 
-record-other : (mpeg1 : Bool) (b : List Bool) → other (recordOf mpeg1 b) ≡ true
-unfolding recordOf recordIn other
-record-other mpeg1 b =
-    pick-other _ _ _ refl
-    (either-way (λ (t : Told SlotRecord). other t ≡ true) _ _ _ (λ e. refl) (λ e. pick-other _ _ _ refl (pick-other _ _ _ refl refl)))
-
-then-other : (t : Told SlotRecord) (ts : Told (List SlotRecord)) → other t ≡ true → other ts ≡ true → other (thenRecords t ts) ≡ true
-unfolding thenRecords other
-then-other (refused k) ts e f = e
-then-other (told r) (refused k) e f = f
-then-other (told r) (told rs) e f = refl
-
-records-other : (mpeg1 : Bool) (n : ℕ) (b : List Bool) → other (recordsOf mpeg1 n b) ≡ true
-unfolding recordsOf other
-records-other mpeg1 zero b = refl
-records-other mpeg1 (suc n) b = then-other _ _ (record-other mpeg1 _) (records-other mpeg1 n (drop (recordWidth mpeg1) b))
-
-slots-other : (mpeg1 two : Bool) (b : List Bool) (t : Told (List SlotRecord)) → other t ≡ true → other (thenSide mpeg1 two b t) ≡ true
-unfolding thenSide other
-slots-other mpeg1 two b (refused k) e = e
-slots-other mpeg1 two b (told rs) e = refl
-
-side-other : (h : FrameHeader) (s : List ℕ) → other (sideOf h s) ≡ true
-unfolding sideOf sideFrom sideIn other
+side-other : (h : FrameHeader) (s : List ℕ) → only (but 13) (sideOf h s) ≡ true
+unfolding sideOf sideFrom only
 side-other h s =
-    either-way (λ (t : Told SideInfo). other t ≡ true) _ _ _ (λ e. pick-other _ _ _ refl (slots-other _ _ _ _ (records-other _ _ _))) (λ e. refl)
+    let mpeg1 = isMpeg1 (h .version) in
+    let two = isTwo (h .channels) in
+    either-way (λ (t : Told SideInfo). only (but 13) t ≡ true) _ _ _
+    (λ e. pick-only _ _ _ _ refl (side-in-but 13 refl mpeg1 two (bits s (8 * headerSize h) (8 * sideBytes mpeg1 two)))) (λ e. refl)
 
 -- ---- the three ways
 -- a frame all of whose bytes are there
@@ -88,9 +128,8 @@ pub data Way (s old : List ℕ) (p : Step) : Type 0 where
   fullWay : (h : FrameHeader) (i : SideInfo) → Entire s h i → i .«main_data_begin» ≤ length old
       → p ≡ fullStep h i (drop (length old - i .«main_data_begin») old ++ mainOf h s) → Way s old p
 
-not-13 : {A : Type 0} (r : Refusal) (t : Told A) → t ≡ refused r → other t ≡ true → r ≡ ShortReservoir → ⊥
-unfolding other
-not-13 k t e f g = never (sym (ap (λ (q : Refusal). not (eqb (numberOf q) 13)) g) ∙ sym (ap other e) ∙ f)
+not-13 : {A : Type 0} (r : Refusal) (t : Told A) → t ≡ refused r → only (but 13) t ≡ true → r ≡ ShortReservoir → ⊥
+not-13 r t e f g = never (sym (ap (λ (q : Refusal). but 13 (numberOf q)) g) ∙ only-of (but 13) e f)
 
 module _ (s old : List ℕ) where
   by-turn : (h : FrameHeader) (i : SideInfo) → Entire s h i → Way s old (frameOf s old)
@@ -107,7 +146,7 @@ module _ (s old : List ℕ) where
   by-side h e (told i) f =
       elim (decLe (frameLength h) (length s)) [
         | yes l ↦ by-turn h i (record { header = e; info = f; there = l })
-        | no l ↦ refusedWay AbsentBytes (λ z. let n : _≡_ {A = ℕ} 2 13 = ap numberOf z in omega arith) (frame-absent s old e f (omega arith))
+        | no l ↦ refusedWay (AbsentBytes (length s)) (λ z. let n : _≡_ {A = ℕ} 2 13 = ap numberOf z in omega arith) (frame-absent s old e f (omega arith))
       ]
 
   by-header : (t : Told FrameHeader) → headerOf s ≡ t → Way s old (frameOf s old)

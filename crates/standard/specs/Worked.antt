@@ -21,7 +21,7 @@ use Rattle.standard.specs.Frame.{Step, noStep, shortStep, fullStep, with
 use Rattle.standard.specs.Reorder.{bandOrder, orderFrom, orderOf, gathered}
 use Rattle.standard.specs.declared.SampleRate.{SampleRate}
 use Rattle.standard.specs.declared.SampleRate.the-variants.{Hz44100}
-use Rattle.standard.specs.declared.Refusal.the-variants.{MissingBits, FactorOverrun, RegionOverrun, PairOverrun, ShortReservoir, ReservedVersion, ReservedLayer, OtherLayer, FreeBitrate, ForbiddenRate, TooManyPairs}
+use Rattle.standard.specs.declared.Refusal.the-variants.{MissingBits, FactorOverrun, RegionOverrun, PairOverrun, ShortReservoir, ReservedVersion, ReservedLayer, OtherLayer, FreeBitrate, ForbiddenBitrate, ReservedRate, TooManyPairs}
 use Rattle.standard.specs.declared.Refusal.{Refusal}
 use Rattle.standard.specs.declared.Verdict.{Verdict}
 use Rattle.standard.specs.declared.Verdict.the-variants.{Accepted, Refused}
@@ -96,8 +96,8 @@ table =
     -- F's first five bits, 01111, are the second group of five factors, and leave none for numbers
     wholly (long16 5) (holds (replicate 7 0 ++ replicate 4 1 ++ replicate 11 0) (replicate 39 0) []) ∷
     refusedFor (set frameF 2 0x04) FreeBitrate ∷
-    refusedFor (set frameF 2 0xF4) ForbiddenRate ∷
-    refusedFor (set frameF 2 0x1C) ForbiddenRate ∷
+    refusedFor (set frameF 2 0xF4) ForbiddenBitrate ∷
+    refusedFor (set frameF 2 0x1C) ReservedRate ∷
     refusedFor (set frameF 1 0xEB) ReservedVersion ∷
     refusedFor (set frameF 1 0xF1) ReservedLayer ∷
     refusedFor (set frameF 1 0xF5) OtherLayer ∷

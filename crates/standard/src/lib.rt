@@ -127,17 +127,19 @@ pub struct Reservoir {
     pub length: usize,
 }
 
-// Why a call, a frame or a slot is refused. Refusals.antt gives the number of each.
+// Why a call, a frame or a slot is refused. Refusals.antt gives the number of each. Where bytes are absent, the offset of the first one that was
+// needed is told, from the frame's first byte; no frame is so long that it needs more than 16 bits.
 pub enum Refusal {
     UnfitMemory,
     MadeUpRecord,
-    AbsentBytes,
+    AbsentBytes { offset: u16 },
     NoSync,
     ReservedVersion,
     ReservedLayer,
     OtherLayer,
     FreeBitrate,
-    ForbiddenRate,
+    ForbiddenBitrate,
+    ReservedRate,
     ReservedEmphasis,
     TooManyPairs,
     ForbiddenBlock,

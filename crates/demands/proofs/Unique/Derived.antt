@@ -26,6 +26,8 @@ use Rattle.derived.proofs.channel_count.Reads as channel-count
 use Rattle.derived.proofs.channel_count.Kinds as channel-count-kinds
 use Rattle.derived.proofs.number_of.Reads as number-of
 use Rattle.derived.proofs.number_of.Kinds as number-of-kinds
+use Rattle.derived.proofs.offset_of.Reads as offset-of
+use Rattle.derived.proofs.offset_of.Kinds as offset-of-kinds
 
 pub bps-unique : OneAnswer bps-kinds.ps bps-kinds.r bps.Post
 bps-unique κs a x y s t p q = alike p q
@@ -65,3 +67,6 @@ channel-count-unique κs a x y s t p q = alike p q
 
 pub number-of-unique : OneAnswer number-of-kinds.ps number-of-kinds.r number-of.Post
 number-of-unique κs a x y s t p q = alike p q
+
+pub offset-of-unique : OneAnswer offset-of-kinds.ps offset-of-kinds.r offset-of.Post
+offset-of-unique κs a x y s t p q = alike p q

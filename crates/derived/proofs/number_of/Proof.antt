@@ -1,4 +1,4 @@
--- `refusals::number_of` meets its contract: in each arm the refusal is the arm's, and the definition computes at it. Assumes nothing.
+-- `derived::number_of` meets its contract: in each arm the refusal is the arm's, and the definition computes at it. Assumes nothing.
 use mathlib.Core.Path.{sym, ap}
 use borrow.Author.Needs.{needs}
 use Rattle.standard.specs.Refusals.{numberOf}
@@ -12,7 +12,7 @@ number-of-spec =
     (λ c. search needs) (λ c. search needs) (λ c. search needs) (λ c. search needs) (λ c. search needs)
     (λ c. search needs) (λ c. search needs) (λ c. search needs) (λ c. search needs) (λ c. search needs)
     (λ c. search needs) (λ c. search needs) (λ c. search needs) (λ c. search needs) (λ c. search needs)
-    (λ c. search needs) (λ c. search needs) (λ c. search needs) (λ c. search needs) (λ c. search needs)
+    (λ c. search needs) (λ c. search needs) (λ c. search needs) (λ c. search needs) (λ c. search needs) (λ c. search needs)
     (λ c. sym (ap numberOf (c .enum-told .given .1)))
     (λ c. sym (ap numberOf (c .enum-told2 .given .1)))
     (λ c. sym (ap numberOf (c .enum-told3 .given .1)))
@@ -32,4 +32,5 @@ number-of-spec =
     (λ c. sym (ap numberOf (c .enum-told17 .given .1)))
     (λ c. sym (ap numberOf (c .enum-told18 .given .1)))
     (λ c. sym (ap numberOf (c .enum-told19 .given .1)))
-    (λ c. sym (ap numberOf (c .enum-told20 .given .1))))
+    (λ c. sym (ap numberOf (c .enum-told20 .given .1)))
+    (λ c. sym (ap numberOf (c .enum-told21 .given .1))))

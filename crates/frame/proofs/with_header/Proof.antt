@@ -4,7 +4,7 @@ use mathlib.Core.Path.{refl}
 use native.Mathlib.Omega.{arith}
 use denote.Ref.{now}
 use Rattle.standard.specs.RefusalsLaws.{answered-told, answered-refused}
-use Rattle.standard.specs.HeaderLaws.{frame-length-le}
+use Rattle.standard.specs.HeaderLaws.{frame-length-le, frame-length-any}
 use Rattle.standard.specs.SideBytes.{side-known}
 use Rattle.standard.specs.FrameLaws.{step-refused, frame-no-side, frame-absent}
 use Rattle.frame.proofs.Stages.{side-header, parts, main-length, whole-frame}
@@ -43,6 +43,11 @@ enum-told c = search needs
 
 frame-length-requires : tie.Need-frame-length-requires
 frame-length-requires c κs = search needs
+
+cast-offset : tie.Need-cast-offset
+cast-offset c =
+    let h = c .before .before .before .before .before .before .before .before .args .h in
+    omega (arith, c .if1 .taken, c .before .frame-length .ensures, frame-length-any h)
 
 refused-requires-2 : tie.Need-refused-requires-2
 refused-requires-2 c κs = search needs
@@ -161,6 +166,7 @@ with-header-spec =
     returns
     enum-told
     frame-length-requires
+    cast-offset
     refused-requires-2
     returns-2
     header-size-requires

@@ -8,13 +8,13 @@ use Rattle.front_end.proofs.front_end_frame.Reads as reads
 use Rattle.front_end.proofs.front_end_frame.Lts as lts
 use Rattle.frame.proofs.process_frame.Reads as process-frame-reads
 use Rattle.front_end.proofs.rows.tell.Reads as tell-reads
-use Rattle.derived.proofs.number_of.Reads as number-of-reads
+use Rattle.front_end.proofs.rows.told_of.Reads as told-of-reads
 
-number-of-requires : tie.Need-number-of-requires
-number-of-requires c κs = search needs
+told-of-requires : tie.Need-told-of-requires
+told-of-requires c κs = search needs
 
 returns : tie.Need-returns
-returns c = frame-few (room-few _ _ _ _ _ (c .before .if1 .taken)) (c .number-of .ensures) refl refl refl
+returns c = frame-few (room-few _ _ _ _ _ (c .before .if1 .taken)) (c .told-of .ensures) refl refl refl
 
 process-frame-requires : tie.Need-process-frame-requires
 process-frame-requires c κs = search needs
@@ -43,7 +43,7 @@ pub front-end-frame-spec : {M : Type 1} → statement M
 front-end-frame-spec =
     tie.close
     (tie.spec
-    number-of-requires
+    told-of-requires
     returns
     process-frame-requires
     cast-begin

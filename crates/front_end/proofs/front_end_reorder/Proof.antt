@@ -11,13 +11,13 @@ use Rattle.front_end.proofs.front_end_reorder.Reads as reads
 use Rattle.front_end.proofs.front_end_reorder.Lts as lts
 use Rattle.front_end.proofs.reorder_under.Reads as reorder-under-reads
 use Rattle.header.proofs.read_frame_header.Reads as read-frame-header-reads
-use Rattle.derived.proofs.number_of.Reads as number-of-reads
+use Rattle.front_end.proofs.rows.told_of.Reads as told-of-reads
 
-number-of-requires : tie.Need-number-of-requires
-number-of-requires c κs = search needs
+told-of-requires : tie.Need-told-of-requires
+told-of-requires c κs = search needs
 
 returns : tie.Need-returns
-returns c = reorder-refused UnfitMemory (reorder-few _ _ _ (c .before .if1 .taken)) (c .number-of .ensures) refl
+returns c = reorder-refused UnfitMemory (reorder-few _ _ _ (c .before .if1 .taken)) (c .told-of .ensures) refl
 
 read-frame-header-requires : tie.Need-read-frame-header-requires
 read-frame-header-requires c κs = search needs
@@ -25,8 +25,8 @@ read-frame-header-requires c κs = search needs
 enum-known-why : tie.Need-enum-known-why
 enum-known-why c = search needs
 
-number-of-requires-2 : tie.Need-number-of-requires-2
-number-of-requires-2 c κs = search needs
+told-of-requires-2 : tie.Need-told-of-requires-2
+told-of-requires-2 c κs = search needs
 
 enum-known-h : tie.Need-enum-known-h
 enum-known-h c = search needs
@@ -41,7 +41,7 @@ returns-2 c =
     let why = c .before .before .why .given in
     reorder-refused (why .0 .0)
     (reorder-fits (now (a .frame)) (a .slot) (now (a .numbers)) (c .before .before .before .before .before .if1 .left)
-    ∙ under-no-header _ _ (sym (c .before .before .before .before .read-frame-header .ensures) ∙ ap toldHeader (why .1))) (c .number-of2 .ensures) refl
+    ∙ under-no-header _ _ (sym (c .before .before .before .before .read-frame-header .ensures) ∙ ap toldHeader (why .1))) (c .told-of2 .ensures) refl
 
 same-length : tie.Need-same-length
 same-length c = search needs
@@ -53,11 +53,11 @@ pub front-end-reorder-spec : {M : Type 1} → statement M
 front-end-reorder-spec =
     tie.close
     (tie.spec
-    number-of-requires
+    told-of-requires
     returns
     read-frame-header-requires
     enum-known-why
-    number-of-requires-2
+    told-of-requires-2
     enum-known-h
     reorder-under-requires
     returns-2

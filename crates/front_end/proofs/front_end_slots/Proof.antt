@@ -13,13 +13,13 @@ use Rattle.front_end.proofs.front_end_slots.Reads as reads
 use Rattle.front_end.proofs.front_end_slots.Lts as lts
 use Rattle.front_end.proofs.slots_under.Reads as slots-under-reads
 use Rattle.header.proofs.read_frame_header.Reads as read-frame-header-reads
-use Rattle.derived.proofs.number_of.Reads as number-of-reads
+use Rattle.front_end.proofs.rows.told_of.Reads as told-of-reads
 
-number-of-requires : tie.Need-number-of-requires
-number-of-requires c κs = search needs
+told-of-requires : tie.Need-told-of-requires
+told-of-requires c κs = search needs
 
 returns : tie.Need-returns
-returns c = slots-refused UnfitMemory (slots-unfit _ _ _ _ (c .before .if1 .taken)) (c .number-of .ensures) refl refl
+returns c = slots-refused UnfitMemory (slots-unfit _ _ _ _ (c .before .if1 .taken)) (c .told-of .ensures) refl refl
 
 read-frame-header-requires : tie.Need-read-frame-header-requires
 read-frame-header-requires c κs = search needs
@@ -27,8 +27,8 @@ read-frame-header-requires c κs = search needs
 enum-known-why : tie.Need-enum-known-why
 enum-known-why c = search needs
 
-number-of-requires-2 : tie.Need-number-of-requires-2
-number-of-requires-2 c κs = search needs
+told-of-requires-2 : tie.Need-told-of-requires-2
+told-of-requires-2 c κs = search needs
 
 enum-known-h : tie.Need-enum-known-h
 enum-known-h c = search needs
@@ -48,7 +48,7 @@ returns-2 c =
     let why = c .before .before .why .given in
     slots-refused (why .0 .0)
     (slots-fit (now (a .frame)) (now (a .main)) _ _ (c .before .before .before .before .before .if1 .left)
-    ∙ under-no-header _ _ (sym (c .before .before .before .before .read-frame-header .ensures) ∙ ap toldHeader (why .1))) (c .number-of2 .ensures) refl refl
+    ∙ under-no-header _ _ (sym (c .before .before .before .before .read-frame-header .ensures) ∙ ap toldHeader (why .1))) (c .told-of2 .ensures) refl refl
 
 same-length : tie.Need-same-length
 same-length c = search needs
@@ -63,11 +63,11 @@ pub front-end-slots-spec : {M : Type 1} → statement M
 front-end-slots-spec =
     tie.close
     (tie.spec
-    number-of-requires
+    told-of-requires
     returns
     read-frame-header-requires
     enum-known-why
-    number-of-requires-2
+    told-of-requires-2
     enum-known-h
     slots-under-requires
     returns-2

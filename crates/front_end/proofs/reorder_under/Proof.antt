@@ -11,10 +11,10 @@ use Rattle.front_end.proofs.reorder_under.Statement.{statement}
 use Rattle.front_end.proofs.reorder_under.Tie as tie
 use Rattle.front_end.proofs.reorder_under.Reads as reads
 use Rattle.front_end.proofs.reorder_under.Lts as lts
-use Rattle.front_end.proofs.rows.verdict_number.Reads as verdict-number-reads
+use Rattle.front_end.proofs.rows.verdict_told.Reads as verdict-told-reads
 use Rattle.derived.proofs.channel_count.Reads as channel-count-reads
 use Rattle.derived.proofs.granules.Reads as granules-reads
-use Rattle.derived.proofs.number_of.Reads as number-of-reads
+use Rattle.front_end.proofs.rows.told_of.Reads as told-of-reads
 use Rattle.reorder.proofs.reorder.Reads as reorder-reads
 use Rattle.side_info.proofs.read_side_info.Reads as read-side-info-reads
 
@@ -24,8 +24,8 @@ read-side-info-requires c κs = search needs
 enum-known-verdict : tie.Need-enum-known-verdict
 enum-known-verdict c = search needs
 
-number-of-requires : tie.Need-number-of-requires
-number-of-requires c κs = search needs
+told-of-requires : tie.Need-told-of-requires
+told-of-requires c κs = search needs
 
 returns : tie.Need-returns
 returns c =
@@ -35,7 +35,7 @@ returns c =
     reorder-refused (why .0 .0)
     (reorder-fits (now (a .frame)) (a .slot) (now (a .numbers)) (o .pre .0)
     ∙ under-no-side _ _ (o .pre .1) (answered-refused (c .before .before .before .before .before .read-side-info .ensures) (why .1)))
-    (c .number-of .ensures) refl
+    (c .told-of .ensures) refl
 
 enum-told : tie.Need-enum-told
 enum-told c = search needs
@@ -64,8 +64,8 @@ mul-r c = omega (arith, element-copy-out-r c)
 reorder-requires : tie.Need-reorder-requires
 reorder-requires c κs = search needs
 
-verdict-number-requires : tie.Need-verdict-number-requires
-verdict-number-requires c κs = search needs
+verdict-told-requires : tie.Need-verdict-told-requires
+verdict-told-requires c κs = search needs
 
 same-length : tie.Need-same-length
 same-length c = search needs
@@ -84,10 +84,10 @@ returns-2 c =
     (answered-told (c .before .before .before .before .before .before .before .before .before .before .before .read-side-info .ensures)
     (c .before .before .before .before .before .before .before .before .enum-told .given .1))
     ∙ reorder-there (now (a .frame)) (a .slot) (now (a .numbers)) (a .h) i there)
-    (c .before .before .reorder .ensures) (c .verdict-number .ensures)
+    (c .before .before .reorder .ensures) (c .verdict-told .ensures)
 
-number-of-requires-2 : tie.Need-number-of-requires-2
-number-of-requires-2 c κs = search needs
+told-of-requires-2 : tie.Need-told-of-requires-2
+told-of-requires-2 c κs = search needs
 
 returns-3 : tie.Need-returns-3
 returns-3 c =
@@ -102,7 +102,7 @@ returns-3 c =
     (answered-told (c .before .before .before .before .before .before .before .read-side-info .ensures)
     (c .before .before .before .before .enum-told .given .1))
     ∙ reorder-lacking (now (a .frame)) (a .slot) (now (a .numbers)) (a .h) i lacking)
-    (c .number-of2 .ensures) refl
+    (c .told-of2 .ensures) refl
 
 pub reorder-under-spec : {M : Type 1} → statement M
 reorder-under-spec =
@@ -110,7 +110,7 @@ reorder-under-spec =
     (tie.spec
     read-side-info-requires
     enum-known-verdict
-    number-of-requires
+    told-of-requires
     returns
     enum-told
     granules-requires
@@ -119,8 +119,8 @@ reorder-under-spec =
     mul-r
     element-copy-out-r
     reorder-requires
-    verdict-number-requires
+    verdict-told-requires
     same-length
     returns-2
-    number-of-requires-2
+    told-of-requires-2
     returns-3)

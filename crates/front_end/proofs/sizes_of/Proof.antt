@@ -14,39 +14,30 @@ use Rattle.derived.proofs.hz.Reads as hz-reads
 use Rattle.derived.proofs.main_size.Reads as main-size-reads
 use Rattle.derived.proofs.side_size.Reads as side-size-reads
 
--- src/lib.rt:187:17
 frame-length-requires : tie.Need-frame-length-requires
 frame-length-requires c κs = search needs
 
--- src/lib.rt:188:17
 header-size-requires : tie.Need-header-size-requires
 header-size-requires c κs = search needs
 
--- src/lib.rt:189:15
 side-size-requires : tie.Need-side-size-requires
 side-size-requires c κs = search needs
 
--- src/lib.rt:190:15
 main-size-requires : tie.Need-main-size-requires
 main-size-requires c κs = search needs
 
--- src/lib.rt:191:19
 granules-requires : tie.Need-granules-requires
 granules-requires c κs = search needs
 
--- src/lib.rt:192:19
 channel-count-requires : tie.Need-channel-count-requires
 channel-count-requires c κs = search needs
 
--- src/lib.rt:193:15
 hz-requires : tie.Need-hz-requires
 hz-requires c κs = search needs
 
--- src/lib.rt:194:18
 bps-requires : tie.Need-bps-requires
 bps-requires c κs = search needs
 
--- src/lib.rt:180:1
 returns : tie.Need-returns
 unfolding sizesTold
 returns c =
@@ -59,6 +50,7 @@ returns c =
     let a1 = a2 .before in
     λ j. record {
       refusal = 0;
+      offset = 0;
       length = a1 .frame-length .ensures j;
       header = a2 .header-size .ensures j;
       side = a3 .side-size .ensures j;

@@ -12,7 +12,7 @@ use Rattle.front_end.proofs.slots_under.Reads as reads
 use Rattle.front_end.proofs.slots_under.Lts as lts
 use Rattle.front_end.proofs.rows.tell.Reads as tell-reads
 use Rattle.main_data.proofs.read_slots.Reads as read-slots-reads
-use Rattle.derived.proofs.number_of.Reads as number-of-reads
+use Rattle.front_end.proofs.rows.told_of.Reads as told-of-reads
 use Rattle.side_info.proofs.read_side_info.Reads as read-side-info-reads
 
 read-side-info-requires : tie.Need-read-side-info-requires
@@ -21,8 +21,8 @@ read-side-info-requires c κs = search needs
 enum-known-verdict : tie.Need-enum-known-verdict
 enum-known-verdict c = search needs
 
-number-of-requires : tie.Need-number-of-requires
-number-of-requires c κs = search needs
+told-of-requires : tie.Need-told-of-requires
+told-of-requires c κs = search needs
 
 returns : tie.Need-returns
 returns c =
@@ -32,7 +32,7 @@ returns c =
     slots-refused (why .0 .0)
     (slots-fit (now (a .frame)) (now (a .main)) _ _ (neither (le-ltb _ _ (o .pre .0)) (le-ltb _ _ (o .pre .1)))
     ∙ under-no-side _ _ (o .pre .2) (answered-refused (c .before .before .before .before .before .read-side-info .ensures) (why .1)))
-    (c .number-of .ensures) refl refl
+    (c .told-of .ensures) refl refl
 
 enum-told : tie.Need-enum-told
 enum-told c = search needs
@@ -67,7 +67,7 @@ slots-under-spec =
     (tie.spec
     read-side-info-requires
     enum-known-verdict
-    number-of-requires
+    told-of-requires
     returns
     enum-told
     read-slots-requires

@@ -5,7 +5,7 @@ use mathlib.Core.Logic.{⊎-elim}
 use native.Mathlib.Omega.{arith}
 use borrow.Author.Needs.{needs}
 use lib.Dec.{leb·suc-suc}
-use borrow.Author.Tests.{eq-eqb, ne-eqb, eqb-false}
+use borrow.Author.Tests.{eq-eqb, ne-eqb}
 use Rattle.standard.specs.Told.{told, pick}
 use Rattle.standard.specs.Header.{lastBytes}
 use Rattle.header.proofs.last_bytes.Statement.{statement}
@@ -16,15 +16,20 @@ fields-requires : tie.Need-fields-requires
 fields-requires c κs =
     let d = c .before in
     let byte = d .before .before .before .before .shared-slice-known4 .given 2 in
-    (omega (arith, d .before .before .before .if1 .left), omega (arith, byte, d .before .before .if2 .left), omega (arith, eqb-false, d .before .if3 .left))
+    (omega (arith, d .before .before .before .if1 .left), omega (arith, byte, d .before .before .if2 .left), omega (arith, d .before .if3 .left))
 
 -- the last test is not met: the CRC's bytes are there, or there is no CRC
-read : tie.Need-returns-5
+read : tie.Need-returns-6
 unfolding lastBytes pick
 read c =
     let d = c .before .before in
     ap told (c .fields .ensures) ∙
-    simp (ne-eqb _ _ (d .before .before .before .if1 .left), ne-eqb _ _ (d .before .before .if2 .left), d .before .if3 .left, ne-eqb _ _ (d .if4 .left))
+    simp (
+      ne-eqb _ _ (d .before .before .before .if1 .left),
+      ne-eqb _ _ (d .before .before .if2 .left),
+      ne-eqb _ _ (d .before .if3 .left),
+      ne-eqb _ _ (d .if4 .left),
+    )
     (⊎-elim (λ w. simp (eq-eqb _ _ (w .0 .taken), rw leb·suc-suc at (w .1 .left))) (λ w. simp (ne-eqb _ _ (w .left))) (c .before .if5 .came))
 
 pub last-bytes-spec : {M : Type 1} → statement M
@@ -34,17 +39,20 @@ last-bytes-spec =
     (tie.spec
     (λ c. search needs) (λ c. search needs) (λ c. search needs)
     (λ c. simp (eq-eqb _ _ (c .if1 .taken)))
-    (λ c. let p = ne-eqb _ _ (c .before .if1 .left) in ⊎-elim (λ w. simp (p, eq-eqb _ _ (w .taken))) (λ w. simp (p, ne-eqb _ _ (w .0 .left), w .1 .taken))
-    (c .if2 .came))
-    (λ c. let d = c .before in simp (ne-eqb _ _ (d .before .before .if1 .left), ne-eqb _ _ (d .before .if2 .left), d .if3 .left, eq-eqb _ _ (c .if4 .taken)))
-    (λ c. let d = c .before .before in simp (
+    (λ c. simp (ne-eqb _ _ (c .before .if1 .left), eq-eqb _ _ (c .if2 .taken)))
+    (λ c. let d = c .before in simp (ne-eqb _ _ (d .before .if1 .left), ne-eqb _ _ (d .if2 .left), eq-eqb _ _ (c .if3 .taken)))
+    (λ c. let d = c .before in simp
+    (ne-eqb _ _ (d .before .before .if1 .left), ne-eqb _ _ (d .before .if2 .left), ne-eqb _ _ (d .if3 .left), eq-eqb _ _ (c .if4 .taken)))
+    (λ c κs. search needs)
+    (λ c. let d = c .before .before .before in c .no-bytes .ensures
+    ∙ simp (
       ne-eqb _ _ (d .before .before .before .if1 .left),
       ne-eqb _ _ (d .before .before .if2 .left),
-      d .before .if3 .left,
+      ne-eqb _ _ (d .before .if3 .left),
       ne-eqb _ _ (d .if4 .left),
       eq-eqb _ _
-          (c .before .if5 .taken),
-      rw leb·suc-suc at (c .if6 .taken),
+          (c .before .before .if5 .taken),
+      rw leb·suc-suc at (c .before .if6 .taken),
     ))
     fields-requires
     read)

@@ -14,10 +14,13 @@ unfolding headerOf pick
 read-frame-header-spec =
     tie.close
     (tie.spec
-    (λ c. simp (le-leb _ _ (le-of-suc-le-suc (c .if1 .taken))))
+    (λ c κs. search needs)
+    (λ c. c .no-bytes .ensures ∙ simp (le-leb _ _ (le-of-suc-le-suc (c .before .if1 .taken))))
     (λ c. search needs)
     (λ c. simp (lt-leb _ _ (c .before .before .if1 .left), ne-eqb _ _ (c .if2 .taken)))
-    (λ c. simp (lt-leb _ _ (c .before .before .before .if1 .left), eq-eqb _ _ (c .before .if2 .left), le-leb _ _ (le-of-suc-le-suc (c .if3 .taken))))
+    (λ c κs. search needs)
+    (λ c. let d = c .before in c .no-bytes2 .ensures
+    ∙ simp (lt-leb _ _ (d .before .before .before .if1 .left), eq-eqb _ _ (d .before .if2 .left), le-leb _ _ (le-of-suc-le-suc (d .if3 .taken))))
     (λ c κs. search needs)
     (λ c. let d = c .before in c .second-byte .ensures
     ∙ simp (lt-leb _ _ (d .before .before .before .if1 .left), eq-eqb _ _ (d .before .if2 .left), lt-leb _ _ (d .if3 .left))))

@@ -20,13 +20,15 @@ second-byte-spec =
     (λ c. simp (le-ltb _ _ (c .before .before .if1 .left), ne-eqb _ _ (c .before .if2 .left), eq-eqb _ _ (c .if3 .taken)))
     (λ c. let d = c .before in simp
     (le-ltb _ _ (d .before .before .if1 .left), ne-eqb _ _ (d .before .if2 .left), ne-eqb _ _ (d .if3 .left), ne-eqb _ _ (c .if4 .taken)))
-    (λ c. let d = c .before .before in simp (
+    (λ c κs. search needs)
+    (λ c. let d = c .before .before .before in c .no-bytes .ensures
+    ∙ simp (
       le-ltb _ _ (d .before .before .if1 .left),
       ne-eqb _ _ (d .before .if2 .left),
       ne-eqb _ _ (d .if3 .left),
-      eq-eqb _ _ (c .before .if4 .left),
+      eq-eqb _ _ (c .before .before .if4 .left),
       le-leb _ _
-          (le-of-suc-le-suc (c .if5 .taken)),
+          (le-of-suc-le-suc (c .before .if5 .taken)),
     ))
     (λ c κs. search needs)
     (λ c. let d = c .before .before .before in c .last-bytes .ensures

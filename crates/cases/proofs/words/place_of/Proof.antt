@@ -1,18 +1,18 @@
--- `cases::words::line_end` meets its contract: the place only grows. Assumes nothing.
+-- `cases::words::place_of` meets its contract: the place only grows. Assumes nothing.
 use Prim.Native.Nat.{_-_, _≤_}
 use lib.ListN.{length}
 use native.Mathlib.Omega.{arith}
 use borrow.Author.Needs.{needs}
-use Rattle.cases.proofs.words.line_end.Statement.{statement}
-use Rattle.cases.proofs.words.line_end.Tie as tie
-use Rattle.cases.proofs.words.line_end.Reads as reads
-use Rattle.cases.proofs.words.line_end.Lts as lts
+use Rattle.cases.proofs.words.place_of.Statement.{statement}
+use Rattle.cases.proofs.words.place_of.Tie as tie
+use Rattle.cases.proofs.words.place_of.Reads as reads
+use Rattle.cases.proofs.words.place_of.Lts as lts
 
 abbrev Inv-loop : tie.InvT-loop
-Inv-loop text from at₀ at = from ≤ at
+Inv-loop text from c at₀ at = from ≤ at
 
 abbrev μ-loop : tie.MeasureT-loop
-μ-loop text from at₀ at = length text - at
+μ-loop text from c at₀ at = length text - at
 
 loop-holds : tie.Need-loop-holds Inv-loop μ-loop
 loop-holds c = search needs
@@ -35,8 +35,8 @@ loop-again c = search needs
 returns-2 : tie.Need-returns-2 Inv-loop μ-loop
 returns-2 c = search needs
 
-pub line-end-spec : {M : Type 1} → statement M
-line-end-spec =
+pub place-of-spec : {M : Type 1} → statement M
+place-of-spec =
     tie.close
     (tie.spec
     Inv-loop
