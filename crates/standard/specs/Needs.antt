@@ -16,7 +16,7 @@ use Rattle.standard.specs.declared.SideInfo.{SideInfo}
 -- ---- a header's, whose bytes may show a fault one by one: the first; the second; the third and fourth together; then the CRC's, if there is one
 -- a second byte that begins no header of Layer III: 3, 4, 5, 6
 abbrev pub wrongSecond : ℕ → Bool
-wrongSecond b1 = ltb b1 syncLeast || eqb (ID b1) 1 || eqb (layer b1) 0 || not (eqb (layer b1) 1)
+wrongSecond b1 = ltb b1 syncLeast || eqb (ID b1) 1 || not (eqb (layer b1) 1)
 
 -- a third and fourth byte that spell none: 7, 8, 15, 9
 abbrev pub wrongLast : ℕ → ℕ → Bool

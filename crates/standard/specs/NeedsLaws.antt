@@ -1,14 +1,14 @@
 -- Refusal 2 is given exactly when a needed byte is absent before any other fault shows, and its offset is the first such place: of a header, of side
 -- information under a header, of a frame. Where there is a header the place is below the frame's length.
 use mathlib.Core.Path.{_≡_, refl, sym, ap, subst, _∙_}
-use mathlib.Core.Bool.{Bool, true, false, _&&_, _||_}
+use mathlib.Core.Bool.{Bool, true, false, not, _&&_, _||_}
 use mathlib.Core.Logic.{_↔_}
 use mathlib.Core.List.{List}
 use Prim.Native.Nat.{ℕ, _+_, _*_, _≤_, _<_}
 use native.Mathlib.Decide.{decLe}
 use native.Mathlib.Omega.{arith}
-use borrow.Author.Tests.{lt-ltb, le-ltb, le-leb, lt-leb, leb-false}
-use lib.Dec.{leb, eqb}
+use borrow.Author.Tests.{lt-ltb, le-ltb, le-leb, lt-leb, leb-false, eqb-true}
+use lib.Dec.{ltb, leb, eqb}
 use lib.ListN.{length, getD}
 use Rattle.standard.specs.Told.{Told, refused, told, pick, verdictOf}
 use Rattle.standard.specs.ToldLaws.{picked, passed, never, no-refusal, told-is, either-way}
@@ -17,7 +17,7 @@ use Rattle.standard.specs.RefusalsLaws.{why-is, unlike}
 use Rattle.standard.specs.Bits.{one, bits}
 use Rattle.standard.specs.Written.{Bytes}
 use Rattle.standard.specs.Header.{fields, lastBytes, secondByte, headerOf, isHeader, isMpeg1, isTwo, headerSize, sideBytes, sideSize, mainSize, dataSize, frameLength}
-use Rattle.standard.specs.Header.{protectionBit}
+use Rattle.standard.specs.Header.{syncLeast, ID, layer, protectionBit}
 use Rattle.standard.specs.HeaderLaws.{header-size, side-size, main-and-side}
 use Rattle.standard.specs.HeaderBytes.{header-known}
 use Rattle.standard.specs.SideInfo.{absentFrom, sideIn, sideFrom, sideOf}
@@ -99,12 +99,31 @@ only-not (told a) f e = unlike (sym e)
 at-least : (m : ℕ) (b : Bool) (x y : ℕ) → m ≤ x → m ≤ y → m ≤ pick b x y
 at-least m b x y p q = either-way (λ (n : ℕ). m ≤ n) b x y (λ e. p) (λ e. q)
 
-or-four : (a b c d : Bool) (x y : ℕ) → pick (a || b || c || d) x y ≡ pick a x (pick b x (pick c x (pick d x y)))
+or-pick : (a b : Bool) (x y : ℕ) → pick (a || b) x y ≡ pick a x (pick b x y)
 unfolding pick
-or-four true b c d x y = refl
-or-four false true c d x y = refl
-or-four false false true d x y = refl
-or-four false false false d x y = refl
+or-pick true b x y = refl
+or-pick false b x y = refl
+
+or-three : (a b c : Bool) (x y : ℕ) → pick (a || b || c) x y ≡ pick a x (pick b x (pick c x y))
+or-three a b c x y = or-pick (a || b) c x y ∙ or-pick a b x (pick c x y)
+
+or-four : (a b c d : Bool) (x y : ℕ) → pick (a || b || c || d) x y ≡ pick a x (pick b x (pick c x (pick d x y)))
+or-four a b c d x y = or-pick (a || b || c) d x y ∙ or-three a b c x (pick d x y)
+
+-- a test that a later one covers adds nothing
+covered : (c d : Bool) (x y : ℕ) → (c ≡ true → d ≡ true) → pick c x (pick d x y) ≡ pick d x y
+unfolding pick
+covered true true x y f = refl
+covered true false x y f = never (f refl)
+covered false d x y f = refl
+
+-- the reserved layer is none of Layer III, and has a refusal of its own
+second-needs : (b1 x y : ℕ) → pick (wrongSecond b1) x y
+    ≡ pick (ltb b1 syncLeast) x (pick (eqb (ID b1) 1) x (pick (eqb (layer b1) 0) x (pick (not (eqb (layer b1) 1)) x y)))
+second-needs b1 x y =
+    or-three _ _ _ x y
+    ∙ ap (λ (n : ℕ). pick (ltb b1 syncLeast) x (pick (eqb (ID b1) 1) x n))
+    (sym (covered (eqb (layer b1) 0) (not (eqb (layer b1) 1)) x y (λ e. ap (λ (n : ℕ). not (eqb n 1)) (eqb-true (layer b1) 0 e))))
 
 module _ {A : Type 0} (s : List ℕ) where
   abbrev Fits : ℕ → Told A → Type 0
@@ -150,7 +169,7 @@ header-fit s =
     let two : 2 ≤ pick (wrongSecond (getD s 1 0)) 2 last = at-least 2 _ _ _ (omega arith) (omega (arith, four)) in
     fit-absent s 0 _ _ (at-least 1 _ _ _ (omega arith) (omega (arith, two))) (λ a. fit-fault s _ _ _ _ _ a refl
     (fit-absent s 1 _ _ two (λ b. let l : 2 ≤ length s = omega arith in
-    subst (λ (n : ℕ). Fit n (length s) s (verdictOf (secondByte s))) (sym (or-four _ _ _ _ _ _))
+    subst (λ (n : ℕ). Fit n (length s) s (verdictOf (secondByte s))) (sym (second-needs (getD s 1 0) 2 last))
     (fit-fault s _ _ _ _ _ l refl (fit-fault s _ _ _ _ _ l refl (fit-fault s _ _ _ _ _ l refl (fit-fault s _ _ _ _ _ l refl
     (fit-absent s 3 _ _ four (last-fit s)))))))))
 

@@ -48,7 +48,7 @@ unfolding only
 only-more p q f (refused r) e = f (numberOf r) e
 only-more p q f (told a) e = refl
 
-pub only-of : {A : Type 0} (p : ℕ → Bool) {r : Refusal} {t : Told A} → t ≡ refused r → only p t ≡ true → p (numberOf r) ≡ true
+only-of : {A : Type 0} (p : ℕ → Bool) {r : Refusal} {t : Told A} → t ≡ refused r → only p t ≡ true → p (numberOf r) ≡ true
 unfolding only
 only-of p e f = sym (ap (only p) e) ∙ f
 

@@ -11,12 +11,15 @@ use Rattle.standard.specs.Header.{lastBytes}
 use Rattle.header.proofs.last_bytes.Statement.{statement}
 use Rattle.header.proofs.last_bytes.Tie as tie
 
--- the byte's fields are in their tables
+-- the byte's fields are in their tables, whichever test comes first
 fields-requires : tie.Need-fields-requires
 fields-requires c κs =
     let d = c .before in
     let byte = d .before .before .before .before .shared-slice-known4 .given 2 in
-    (omega (arith, d .before .before .before .if1 .left), omega (arith, byte, d .before .before .if2 .left), omega (arith, d .before .if3 .left))
+    let one = d .before .before .before .if1 .left in
+    let two = d .before .before .if2 .left in
+    let three = d .before .if3 .left in
+    (omega (arith, one, two, three), omega (arith, byte, one, two, three), omega (arith, one, two, three))
 
 -- the last test is not met: the CRC's bytes are there, or there is no CRC
 read : tie.Need-returns-6
