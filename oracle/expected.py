@@ -49,9 +49,11 @@ class Frame:
 
     def __init__(self, lines):
         self.head, self.slots, self.alone, self.records = [], {}, {}, {}
-        self.failure, now = None, None
+        self.failure, now, self.flagged = None, None, 'flagged' in lines
         for line in lines:
             w = line.split(' ', 3)
+            if line == 'flagged':
+                continue
             if w[0] in ('slot', 'alone'):
                 now = Slot(w[3])
                 (self.slots if w[0] == 'slot' else self.alone)[int(w[1]), int(w[2])] = now
@@ -107,7 +109,7 @@ def reordered(f, mine):
 
 def refusal(f, k, start, told):
     """The number that a slot is refused by, or None: the order of docs/REFUSALS.md."""
-    length, pairs, block, region0, region1 = (f.records[k][i] for i in (0, 1, 4, 11, 12))
+    length, pairs, block, region0, region1 = (f.records[k][i] for i in (0, 1, 4, 12, 13))
     mine = f.alone[k]
     words = mine.first.split(' ')
     if 8 * f.reservoir < start + length:
@@ -227,7 +229,15 @@ def entries_of(f, told):
 
 
 def failed(lines, left, before, third):
-    """A try that the Rust fails in before the slots. The bytes of a frame are needed from the first on, so the first absent one stands where the card ends."""
+    """A try that the Rust fails in before the slots; entry 12: where a record has mixed_block_flag it does so in any case."""
+    if lines[-1] == 'flagged':
+        ours, entries = failed(lines[:-1], left, before, third)
+        return ours, tuple(sorted({*entries, 12}))
+    return failed_by(lines, left, before, third)
+
+
+def failed_by(lines, left, before, third):
+    """The bytes of a frame are needed from the first on, so the first absent one stands where the card ends."""
     _, place, stage, kind, text = lines[0].split(' ', 4)
     refused = lambda number: [row('refused', (place, number) + ((left,) if number == 2 else ()))]
     if kind == 'error' and stage == 'header' and text == RATE:
@@ -264,6 +274,8 @@ def expected(lines, mended, card, place, before):
         return lines, ()
     told = slots(f)
     ours = f.head + slot_lines(f, told)
+    if f.flagged:
+        return ours, (12,)
     entries = entries_of(f, told)
     published = lines[:next((i for i, l in enumerate(lines) if l.startswith('alone')), len(lines))]
     if published == ours:

@@ -58,8 +58,8 @@ def frames(card):
     return out
 
 
-def streams(folder):
-    return {n: read(os.path.join(folder, n)) for n in sorted(os.listdir(folder)) if n.endswith('.mp3')}
+def streams(*folders):
+    return {n: read(os.path.join(folder, n)) for folder in folders for n in sorted(os.listdir(folder)) if n.endswith('.mp3')}
 
 
 class Bits:
@@ -130,6 +130,7 @@ def chosen(all_streams):
     joint = lambda f: f[3] >> 6 == 1 and f[3] >> 4 & 1
     picked = {
         'F': (b'', F),
+        'mixed': pick('mixed-24000.mp3', lambda f: f[10] >> 4 == 13),
         'short': pick('m25-12000-mono-8.mp3', lambda f: f[9] & 1 and f[10] >> 6 == 2),
         'allshort': pick('m2-24000-allshort.mp3', lambda f: True),
         'intensity': pick('gen-25-8000-008.mp3', joint),
@@ -156,7 +157,7 @@ def cuts(before, f):
 def fields():
     """All values of scalefac_compress, big_values, the regions and the tables, at each version and kind of block."""
     rng, out = random.Random(1), []
-    blocks = [dict(switched=0), dict(switched=1, block=1), dict(switched=1, block=2), dict(switched=1, block=3)]
+    blocks = [dict(switched=0)] + [dict(switched=1, block=b, mixed=m) for b in (1, 2, 3) for m in (0, 1)]
     for version in RATES:
         for block in blocks:
             for compress in range(16 if version == 1 else 512):
@@ -180,7 +181,8 @@ def fields():
                         length, pairs = rng.randrange(2000), rng.randrange(289)
                         out.append(frame(rng, version, rng.randrange(3), tables=tables, count1=n % 2, length=length, pairs=pairs, **block))
             out += [frame(rng, version, tables=(table,) * 3, length=n, pairs=2) for n in range(60)]
-    out += [frame(rng, version, switched=1, block=b, mixed=1) for version in RATES for b in range(4)]
+    out += [frame(rng, version, rate, switched=1, block=b, mixed=1) for version in RATES for rate in range(3) for b in range(4)]
+    out += [frame(rng, 25, 2, mode=2, switched=1, block=1, mixed=1, second=dict(block=b, pairs=p)) for b in range(4) for p in (7, 289)]
     return out
 
 
@@ -233,9 +235,9 @@ def damaged(all_streams, seed, count):
     return out
 
 
-def all_inputs(folder):
+def all_inputs(folders):
     """Name, whether the programs go on after a refusal, and the cards."""
-    s = streams(folder)
+    s = streams(*folders)
     yield 'smallest', False, smallest()
     for name, card in s.items():
         yield name, True, [card]

@@ -36,7 +36,7 @@ static const char *name_of(unsigned refusal) {
     case FRONT_END_RESERVED_EMPHASIS: return "reserved emphasis";
     case FRONT_END_TOO_MANY_PAIRS: return "too many pairs";
     case FRONT_END_FORBIDDEN_BLOCK: return "forbidden block";
-    case FRONT_END_MIXED_BLOCK: return "mixed block";
+    case FRONT_END_MIXED_BLOCK: return "mixed short block at 8 kHz";
     case FRONT_END_SHORT_RESERVOIR: return "reaches too far back";
     case FRONT_END_MISSING_BITS: return "bits are missing";
     case FRONT_END_FACTOR_OVERRUN: return "factors too long";
@@ -49,7 +49,7 @@ static const char *name_of(unsigned refusal) {
 }
 
 /* A slot's line; the numbers of a short block are reordered first. Its block type says what an index means: of a short block, after the
-   reorder, three windows stand side by side. */
+   reorder, three windows stand side by side; of a mixed one from the 37th number on. */
 static void print_slot(const uint8_t *frame, size_t n, size_t slot) {
     const front_end_slot *told = &slots[slot];
     int32_t *own = numbers + slot * FRONT_END_SLOT;
@@ -60,7 +60,7 @@ static void print_slot(const uint8_t *frame, size_t n, size_t slot) {
         return;
     }
     front_end_reorder(frame, n, slot, own, FRONT_END_SLOT);
-    printf("block %u gain %u count %u:", told->block_type, told->global_gain, told->count);
+    printf("block %u%s gain %u count %u:", told->block_type, told->mixed_block_flag ? " mixed" : "", told->global_gain, told->count);
     for (int i = 0; i < FRONT_END_SLOT; i++) {
         if (own[i]) printf(" %d:%ld", i, (long)own[i]);
     }

@@ -30,9 +30,9 @@ extern "C" {
 #define FRONT_END_SLOTS 4        /* slots of a frame, at most */
 #define FRONT_END_SLOT 576       /* numbers of a slot */
 #define FRONT_END_NUMBERS 2304   /* numbers of a frame's slots: FRONT_END_SLOTS x FRONT_END_SLOT */
-#define FRONT_END_ROW 70         /* numbers in a slot's row (front_end_slot) */
+#define FRONT_END_ROW 71         /* numbers in a slot's row (front_end_slot) */
 #define FRONT_END_ROWS (FRONT_END_SLOTS * FRONT_END_ROW) /* numbers in the rows of a frame */
-#define FRONT_END_STACK 16384    /* bytes of stack that a call needs, at most; measured are 11,232 (bindings/c/stack.c) */
+#define FRONT_END_STACK 16384    /* bytes of stack that a call needs, at most; measured are 11,216 (bindings/c/stack.c) */
 #define FRONT_END_FRAME 1441     /* bytes of the longest frame: so many, if the card has them, are always enough */
 
 /* ---- answers: 0 where a call is accepted, else one of these */
@@ -55,7 +55,7 @@ enum {
     FRONT_END_RESERVED_EMPHASIS = 9,  /* emphasis 2 */
     FRONT_END_TOO_MANY_PAIRS = 10,    /* big_values above 288 */
     FRONT_END_FORBIDDEN_BLOCK = 11,   /* window switching with block type 0 */
-    FRONT_END_MIXED_BLOCK = 12,       /* window switching with the mixed flag */
+    FRONT_END_MIXED_BLOCK = 12,       /* a mixed short block at 8 kHz, where its bands do not meet */
     FRONT_END_SHORT_RESERVOIR = 13,   /* main_data_begin reaches further back than the reservoir. The frame's main data was added to
                                          the reservoir for the frames after it, and its length and main_data_begin are told */
 
@@ -77,13 +77,14 @@ enum {
 typedef struct {
     uint16_t refusal;          /* 0, or 20 to 25, or FRONT_END_LACKING */
     uint16_t count;            /* numbers up to the last that was coded, 0 to 576; those after it are 0 */
-    uint16_t long_factors[22]; /* scale factors of a long block */
-    uint16_t short_factors[13][3]; /* of a short block: for each band, three windows */
-    uint16_t block_type;       /* 0 long, 1 start, 2 short, 3 end: without it an index is no frequency */
+    uint16_t long_factors[22]; /* scale factors of a long block; a mixed one has the first 8 in MPEG-1, else 6 */
+    uint16_t short_factors[13][3]; /* of a short block: for each band, three windows; a mixed one has those from band 3 on */
+    uint16_t block_type;       /* 0 long, 1 start, 2 short, 3 end: without it and mixed_block_flag an index is no frequency */
     uint16_t global_gain;      /* 0 to 255 */
     uint16_t subblock_gain[3]; /* 0 to 7, a window each; 0 where the block is not switched */
     uint16_t scalefac_scale;   /* 0 or 1 */
     uint16_t preflag;          /* 0 or 1; in MPEG-2 and MPEG-2.5 scalefac_compress says it */
+    uint16_t mixed_block_flag; /* 1 in a mixed block: of block type 2 the first 36 numbers are then long ones. Start and end blocks are read as without it */
 } front_end_slot;
 
 /* The struct has the row's numbers and no others: else this does not compile. */
@@ -152,7 +153,7 @@ front_end_told front_end_slots(const uint8_t *frame, size_t frame_length, const 
 size_t front_end_emptied(void);
 
 /* The reorder of one slot's FRONT_END_SLOT numbers by the frame's own record of the slot: those of a short block, window by window
-   before it, stand frequency by frequency after it; any other slot's stay. Numbers past the 576 stay. Answers 0, 1, 14, 2 to 12, or 15.
+   before it, stand frequency by frequency after it, in a mixed block those from the 37th on; any other slot's stay. Numbers past the 576 stay. Answers 0, 1, 14, 2 to 12, or 15.
    Not for a slot that was refused: its numbers are not of this frame. */
 front_end_told front_end_reorder(const uint8_t *frame, size_t frame_length, size_t slot, int32_t *numbers, size_t numbers_length);
 

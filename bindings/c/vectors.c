@@ -25,8 +25,8 @@ static void lend(void) {
 }
 
 static void print_slot(const front_end_slot *slot) {
-    printf(" %u %u %u %u %u %u %u %u %u", slot->refusal, slot->count, slot->block_type, slot->global_gain, slot->subblock_gain[0],
-           slot->subblock_gain[1], slot->subblock_gain[2], slot->scalefac_scale, slot->preflag);
+    printf(" %u %u %u %u %u %u %u %u %u %u", slot->refusal, slot->count, slot->block_type, slot->global_gain, slot->subblock_gain[0],
+           slot->subblock_gain[1], slot->subblock_gain[2], slot->scalefac_scale, slot->preflag, slot->mixed_block_flag);
     for (int i = 0; i < slot->count; i++) printf(" %ld", (long)numbers[i]);
 }
 

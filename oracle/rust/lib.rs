@@ -82,12 +82,57 @@ fn header_row(out: &mut String, h: &FrameHeader) {
     row(out, "header", values);
 }
 
-fn side_rows(out: &mut String, h: &FrameHeader, side: &SideInfo) {
+/// What the Rust says where a record has mixed_block_flag: it goes no further.
+const MIXED: &str = "assertion failed: !mixed_block || info.block_type == BlockType::Short";
+
+/// The number of `n` bits at a place.
+fn field(bytes: &[u8], at: usize, n: usize) -> usize {
+    (at..at + n).fold(0, |v, i| 2 * v + usize::from(bytes[i / 8] >> (7 - i % 8) & 1))
+}
+
+/// The places of window_switching_flag in a frame's records; block_type has the two bits after it, mixed_block_flag the third.
+fn window_places(h: &FrameHeader) -> Vec<usize> {
+    let (channels, one) = (h.channels.num_channels(), h.version == MpegVersion::Mpeg1);
+    let before = match (one, channels) {
+        (true, 1) => 9 + 5 + 4,
+        (true, _) => 9 + 3 + 8,
+        (false, 1) => 8 + 1,
+        (false, _) => 8 + 2,
+    };
+    let (compress, width) = if one { (4, 59) } else { (9, 63) };
+    let first = 8 * if h.crc { 6 } else { 4 } + before + 29 + compress;
+    (0..h.num_granules() * channels).map(|n| first + n * width).collect()
+}
+
+/// Side information, and which records have mixed_block_flag. The Rust stops at each; so it reads a copy in which they are cleared one by one, and the
+/// first that is of a short block at 8 kHz is told.
+fn side_of(h: &FrameHeader, bytes: &[u8]) -> (Result<SideInfo, Failure>, Vec<bool>) {
+    let head = if h.crc { 6 } else { 4 };
+    let places = window_places(h);
+    let mut copy = bytes[..bytes.len().min(head + h.side_data_len())].to_vec();
+    let mut flags = vec![false; places.len()];
+    loop {
+        match caught(|| decoder::side_info(&copy[head..], h)) {
+            Err(Failure::Panic(text)) if text == MIXED => {
+                let n = places.iter().position(|&at| field(&copy, at, 1) == 1 && field(&copy, at + 3, 1) == 1).unwrap();
+                if h.sample_rate.hz() == 8000 && field(&copy, places[n] + 1, 2) == 2 {
+                    return (Err(Failure::Panic(text)), flags);
+                }
+                flags[n] = true;
+                copy[(places[n] + 3) / 8] ^= 128 >> (places[n] + 3) % 8;
+            }
+            read => return (read, flags),
+        }
+    }
+}
+
+fn side_rows(out: &mut String, h: &FrameHeader, side: &SideInfo, flags: &[bool]) {
     let shares = side.scfsi.iter().flatten().map(|&b| b as u32);
     row(out, "side", std::iter::once(u32::from(side.main_data_begin)).chain(shares));
     for g in 0..h.num_granules() {
         for c in 0..h.channels.num_channels() {
             let r = &side.granules[g].channels[c];
+            let flag = flags[g * h.channels.num_channels() + c];
             let block = match r.block_type {
                 BlockType::Long => 0,
                 BlockType::Start => 1,
@@ -96,11 +141,12 @@ fn side_rows(out: &mut String, h: &FrameHeader, side: &SideInfo) {
                 BlockType::Mixed => 4,
             };
             let mut values = vec![g as u32, c as u32, u32::from(r.part2_3_length), u32::from(r.big_values)];
-            values.extend(&[u32::from(r.global_gain), u32::from(r.scalefac_compress), block]);
+            values.extend(&[u32::from(r.global_gain), u32::from(r.scalefac_compress), block, flag as u32]);
             assert!(r.subblock_gain.iter().all(|&x| x.to_bits() == (x as u8 as f32).to_bits()));
             values.extend(r.subblock_gain.iter().map(|&x| x as u32));
             values.extend(r.table_select.iter().map(|&x| u32::from(x)));
-            values.extend(&[u32::from(r.region0_count), u32::from(r.region1_count)]);
+            let regions = if flag { [7, 13] } else { [r.region0_count, r.region1_count] };
+            values.extend(regions.iter().map(|&x| u32::from(x)));
             values.extend(&[r.preflag as u32, r.scalefac_scale as u32, r.count1table_select as u32]);
             row(out, "record", values);
         }
@@ -113,9 +159,9 @@ fn numbers_row(out: &mut String, word: &str, samples: &[f32], end: usize) {
     row(out, word, samples[..end].iter().map(|&x| x as i32));
 }
 
-/// Factors, numbers up to the count (past it they are 0), and a short slot's numbers after the Rust's reorder. Any other
-/// slot's must be left as they are.
-fn slot_rows(h: &FrameHeader, r: &GranuleChannelSideInfo, d: &MainDataChannel) -> String {
+/// Factors, numbers up to the count (past it they are 0), and a short slot's numbers after the Rust's reorder, of a mixed one
+/// those from 36 on. Any other slot's must be left as they are.
+fn slot_rows(h: &FrameHeader, r: &GranuleChannelSideInfo, d: &MainDataChannel, flag: bool) -> String {
     let mut out = String::new();
     row(&mut out, "long", d.scalefac_l.iter());
     row(&mut out, "short", d.scalefac_s.iter().flatten());
@@ -129,11 +175,58 @@ fn slot_rows(h: &FrameHeader, r: &GranuleChannelSideInfo, d: &MainDataChannel) -
     };
     requantize::reorder(h, r, &mut after);
     if r.block_type == BlockType::Short {
+        if flag {
+            after.samples[..36].copy_from_slice(&d.samples[..36]);
+        }
         numbers_row(&mut out, "reordered", &after.samples, 576);
     } else {
         assert!(after.samples[..] == d.samples[..]);
     }
     out
+}
+
+/// How many factors of a mixed block have each length, and the lengths, by docs/RULES.md: what the Rust has for them is never run.
+fn mixed_plan(h: &FrameHeader, channel: usize, compress: u32) -> ([u32; 4], [u32; 4]) {
+    if h.version == MpegVersion::Mpeg1 {
+        let (one, two) = tables::SCALE_FACTOR_SIZES[compress as usize];
+        return ([8, 9, 18, 0], [one as u32, one as u32, two as u32, 0]);
+    }
+    if channel == 1 && h.is_intensity_stereo() {
+        return match compress / 2 {
+            x if x < 180 => ([6, 15, 12, 0], [x / 36, x % 36 / 6, x % 6, 0]),
+            x if x < 244 => ([6, 12, 9, 6], [(x - 180) / 16, (x - 180) % 16 / 4, (x - 180) % 4, 0]),
+            x => ([6, 18, 9, 0], [(x - 244) / 3, (x - 244) % 3, 0, 0]),
+        };
+    }
+    match compress {
+        x if x < 400 => ([6, 9, 9, 9], [x / 80, x / 16 % 5, x % 16 / 4, x % 4]),
+        x if x < 500 => ([6, 9, 12, 6], [(x - 400) / 20, (x - 400) / 4 % 5, (x - 400) % 4, 0]),
+        x => ([15, 18, 0, 0], [(x - 500) / 3, (x - 500) % 3, 0, 0]),
+    }
+}
+
+/// The factors of a mixed block: the first are long ones, the rest short ones from band 3 on. The bits that they took.
+fn mixed_factors(
+    reader: &mut BitReader<&[u8], BigEndian>,
+    h: &FrameHeader,
+    channel: usize,
+    compress: u32,
+    d: &mut MainDataChannel,
+) -> Result<u32, Error> {
+    let (counts, lengths) = mixed_plan(h, channel, compress);
+    let long = if h.version == MpegVersion::Mpeg1 { 8 } else { 6 };
+    let widths = (0..4).flat_map(|i| std::iter::repeat(lengths[i]).take(counts[i] as usize));
+    let mut bits = 0;
+    for (n, width) in widths.enumerate() {
+        let value: u8 = if width == 0 { 0 } else { reader.read(width)? };
+        bits += width;
+        if n < long {
+            d.scalefac_l[n] = value;
+        } else {
+            d.scalefac_s[3 + (n - long) / 3][(n - long) % 3] = value;
+        }
+    }
+    Ok(bits)
 }
 
 /// One slot read from the place where the lengths before it say that it starts, with zeros after the main data: what the
@@ -145,12 +238,21 @@ fn slot_alone(
     start: u32,
     padded: &[u8],
     data: &mut MainData,
+    flag: bool,
 ) -> (String, String) {
     let r = &side.granules[g].channels[c];
     let length = u32::from(r.part2_3_length);
     let mut reader = BitReader::endian(padded, BigEndian);
     reader.skip(start).unwrap();
-    let bits = match caught(|| decoder::factors(&mut reader, h, g, c, side, data)) {
+    let mixed = flag && r.block_type == BlockType::Short;
+    let factors = caught(|| {
+        if mixed {
+            let d = &mut data.granules[g].channels[c];
+            return mixed_factors(&mut reader, h, c, u32::from(r.scalefac_compress), d);
+        }
+        decoder::factors(&mut reader, h, g, c, side, data)
+    });
+    let bits = match factors {
         Ok(bits) => bits,
         Err(why) => return (format!("used {} {}", reader.place() - u64::from(start), why), String::new()),
     };
@@ -161,37 +263,38 @@ fn slot_alone(
     match caught(|| huffman::read_huffman(&mut reader, h, r, length - bits, &mut d.samples)) {
         Ok(count) => {
             d.count1 = count;
-            (format!("used {} count {}", reader.place() - u64::from(start), count), slot_rows(h, r, d))
+            (format!("used {} count {}", reader.place() - u64::from(start), count), slot_rows(h, r, d, flag))
         }
         Err(why) => (format!("used {} {}", reader.place() - u64::from(start), why), String::new()),
     }
 }
 
 /// The slots as the Rust reads them, one after the other; and, where that failed or a slot read more or less than its
-/// length or the two differ, each slot alone.
-fn slots_rows(out: &mut String, h: &FrameHeader, side: &SideInfo, main: &[u8]) {
+/// length or the two differ, each slot alone. Where a record has mixed_block_flag only that.
+fn slots_rows(out: &mut String, h: &FrameHeader, side: &SideInfo, main: &[u8], flags: &[bool]) {
     let mut padded = main.to_vec();
     padded.resize(main.len() + 8192, 0);
     let places: Vec<(usize, usize)> = (0..h.num_granules())
         .flat_map(|g| (0..h.channels.num_channels()).map(move |c| (g, c)))
         .collect();
+    let flagged = flags.iter().any(|&f| f);
     let whole = caught(|| decoder::slots(&mut BitReader::endian(main, BigEndian), h, side));
     let mut data: MainData = Default::default();
     let mut alone = String::new();
-    let mut alike = whole.is_ok();
+    let mut alike = whole.is_ok() && !flagged;
     let mut start = 0;
-    if let Err(why) = &whole {
+    if let (Err(why), false) = (&whole, flagged) {
         writeln!(out, "whole {}", why).unwrap();
     }
-    for (g, c) in places {
+    for (n, (g, c)) in places.into_iter().enumerate() {
         let r = &side.granules[g].channels[c];
-        let (first, rows) = slot_alone(h, side, (g, c), start, &padded, &mut data);
+        let (first, rows) = slot_alone(h, side, (g, c), start, &padded, &mut data, flags[n]);
         start += u32::from(r.part2_3_length);
         writeln!(alone, "alone {} {} {}", g, c, first).unwrap();
         alone += &rows;
-        if let Ok(whole) = &whole {
+        if let (Ok(whole), false) = (&whole, flagged) {
             let d = &whole.granules[g].channels[c];
-            let mine = slot_rows(h, r, d);
+            let mine = slot_rows(h, r, d, false);
             writeln!(out, "slot {} {} {}", g, c, d.count1).unwrap();
             *out += &mine;
             alike &= first == format!("used {} count {}", r.part2_3_length, d.count1) && mine == rows;
@@ -222,16 +325,24 @@ pub fn try_at(place: usize, bytes: &[u8], reservoir: &mut Vec<u8>) -> Tried {
         Err(why) => return failed(place, "header", why, 1),
     };
     let length = if h.crc { 6 } else { 4 } + h.data_size;
-    let side = match caught(|| decoder::side_info(&mut rest, &h)) {
+    let (side, flags) = side_of(&h, bytes);
+    let told = if flags.iter().any(|&f| f) { "flagged\n" } else { "" };
+    let side = match side {
         Ok(side) => side,
-        Err(why) => return failed(place, "side", why, 1),
+        Err(why) => {
+            let mut t = failed(place, "side", why, 1);
+            t.text += told;
+            return t;
+        }
     };
+    rest = &rest[h.side_data_len()..];
     let mut state = DecoderState::new();
     state.frame_buffer[..reservoir.len()].copy_from_slice(reservoir);
     state.frame_buffer_len = reservoir.len();
     let mut rows = String::new();
     header_row(&mut rows, &h);
-    side_rows(&mut rows, &h, &side);
+    side_rows(&mut rows, &h, &side, &flags);
+    rows += told;
     let main = match caught(|| decoder::logical_frame_data(&mut state, &mut rest, &h, &side)) {
         Ok(main) => main,
         Err(why) => {
@@ -249,6 +360,6 @@ pub fn try_at(place: usize, bytes: &[u8], reservoir: &mut Vec<u8>) -> Tried {
     *reservoir = main.clone();
     let mut text = format!("frame {} {} {}\n", place, length, main.len());
     text += &rows;
-    slots_rows(&mut text, &h, &side, &main);
+    slots_rows(&mut text, &h, &side, &main, &flags);
     Tried { text, advance: length, frame: true }
 }

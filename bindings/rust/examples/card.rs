@@ -10,7 +10,8 @@ fn print_slots(frame: &[u8], slots: &[Slot], numbers: &mut [i32; NUMBERS]) {
                 let coded = numbers[SLOT * n..SLOT * (n + 1)].iter().enumerate().filter(|(_, v)| **v != 0);
                 let told: String = coded.map(|(i, v)| format!(" {}:{}", i, v)).collect();
                 let scale = read.scale;
-                println!("  slot {} block {} gain {} count {}:{}", n, scale.block_type as u8, scale.global_gain, read.count, told);
+                let mixed = if scale.mixed_block_flag { " mixed" } else { "" };
+                println!("  slot {} block {}{} gain {} count {}:{}", n, scale.block_type as u8, mixed, scale.global_gain, read.count, told);
             }
             Slot::Refused { refusal, .. } => println!("  slot {} refused {}: {}", n, refusal.number(), refusal),
             Slot::Lacking => {}

@@ -54,11 +54,11 @@ pub const NUMBERS: usize = SLOTS * SLOT;
 /// Bytes of the longest frame: so many, if the card has them, are always enough.
 pub const FRAME: usize = 1441;
 
-// Where in a slot's row the long factors begin, 22 numbers; the short ones, 39; and what the slot's numbers are scaled by, 7.
+// Where in a slot's row the long factors begin, 22 numbers; the short ones, 39; and what the slot's numbers are scaled by, 8.
 const LONG_AT: usize = 2;
 const SHORT_AT: usize = LONG_AT + 22;
 const SCALE_AT: usize = SHORT_AT + 39;
-const ROW: usize = SCALE_AT + 7;
+const ROW: usize = SCALE_AT + 8;
 const ROWS: usize = SLOTS * ROW;
 const LACKING: u16 = 255;
 
@@ -67,9 +67,9 @@ const LACKING: u16 = 255;
 pub struct ReadSlot {
     /// Numbers up to the last that was coded; those after it, up to 576, are 0.
     pub count: usize,
-    /// Scale factors of a long block.
+    /// Scale factors of a long block; a mixed one has the first 8 in MPEG-1, else 6.
     pub long: [u16; 22],
-    /// Of a short block: for each band, three windows.
+    /// Of a short block: for each band, three windows; a mixed one has those from band 3 on.
     pub short: [[u16; 3]; 13],
     /// What its numbers are scaled by.
     pub scale: Scale,
@@ -87,9 +87,12 @@ pub struct Scale {
     pub scalefac_scale: bool,
     /// In MPEG-2 and MPEG-2.5 it is not read: scalefac_compress says it.
     pub preflag: bool,
+    /// Of a `Short` block the first 36 numbers are then those of long bands. `Start` and `End` blocks are read as without it.
+    pub mixed_block_flag: bool,
 }
 
-/// The windows of a slot. Of all but `Short` the n-th number is the n-th frequency; of `Short` three windows share the numbers.
+/// The windows of a slot. Of all but `Short` the n-th number is the n-th frequency; of `Short` three windows share the numbers, in a mixed block
+/// those from the 37th on.
 #[derive(Clone, Copy, Debug, PartialEq, Eq)]
 pub enum BlockType {
     Long = 0,
@@ -326,7 +329,7 @@ pub fn slots(frame: &[u8], main: &[u8], numbers: &mut [i32]) -> Result<[Slot; SL
 }
 
 /// The reorder of one slot's numbers by the frame's own record of the slot: those of a short block stand frequency by frequency after
-/// it; any other block's stay. `numbers` are the frame's, and the slot's own 576 are picked out of them here, so that no other slot's can
+/// it, in a mixed block those from the 37th on; any other block's stay. `numbers` are the frame's, and the slot's own 576 are picked out of them here, so that no other slot's can
 /// be taken for them. A slot that the frame lacks is refused by `Refusal::MadeUpRecord`. Not for a slot that was refused: its numbers are
 /// not of this frame.
 pub fn reorder(frame: &[u8], slot: usize, numbers: &mut [i32; NUMBERS]) -> Result<(), Refusal> {
@@ -374,6 +377,7 @@ fn scale_of(row: &[u16]) -> Scale {
         subblock_gain: [row[2], row[3], row[4]],
         scalefac_scale: row[5] == 1,
         preflag: row[6] == 1,
+        mixed_block_flag: row[7] == 1,
     }
 }
 

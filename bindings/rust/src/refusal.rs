@@ -55,7 +55,7 @@ refusals! {
     ReservedEmphasis = 9, "reserved emphasis";
     TooManyPairs = 10, "big_values above 288";
     ForbiddenBlock = 11, "window switching with block type 0";
-    MixedBlock = 12, "mixed block";
+    MixedBlock = 12, "mixed short block at 8 kHz";
     /// The frame reaches further back than the reservoir; its main data was added for the frames after it.
     ShortReservoir = 13, "the frame reaches too far back";
     /// Reorder: the frame has no slot of that number.

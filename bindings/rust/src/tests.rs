@@ -14,7 +14,7 @@ fn joined<T: ToString>(values: impl IntoIterator<Item = T>) -> String {
 
 fn scale_told(s: &Scale) -> String {
     let [first, second, third] = s.subblock_gain;
-    joined(vec![s.block_type as u16, s.global_gain, first, second, third, s.scalefac_scale as u16, s.preflag as u16])
+    joined(vec![s.block_type as u16, s.global_gain, first, second, third, s.scalefac_scale as u16, s.preflag as u16, s.mixed_block_flag as u16])
 }
 
 /// What is printed of the first slot.
@@ -130,7 +130,7 @@ fn factors_are_told() {
 
 const F: &str = "FFF314C00000400748000800017A00000000000000000000";
 /// What is printed of its slot.
-const F_SLOT: &str = " 0 6 0 210 0 0 0 0 0 -1 0 0 0 1 0";
+const F_SLOT: &str = " 0 6 0 210 0 0 0 0 0 0 -1 0 0 0 1 0";
 
 /// A slot past the last of any frame is refused as one that the frame lacks, and no number changes.
 #[test]

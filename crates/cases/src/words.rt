@@ -1,4 +1,7 @@
 // The words of a case: decimal numbers, and bytes in hex.
+use input::Held;
+use input::taken;
+use input::unread;
 use lent_bytes::put;
 ghost use Prim.Native.Nat.{_≤_};
 
@@ -82,8 +85,33 @@ pub(crate) fn bytes_from(text: &[u8], from: usize, bytes: &mut [u8]) -> usize {
     n
 }
 
+// The bytes of a case: those in hex after the first number, then as many zeros as it says.
+pub(crate) fn bytes_of(text: &[u8], bytes: &mut [u8]) -> Held {
+    let zeros = number(text, 0);
+    let n = bytes_from(text, zeros.next, &mut *bytes);
+    let whole = taken(
+        Held {
+            from: n,
+            end: bytes.len(),
+        },
+        zeros.value,
+    );
+    Held {
+        from: 0,
+        end: whole.from,
+    }
+}
+
+// The byte at a place, or 0 where there is none.
+pub(crate) fn byte_at(text: &[u8], at: usize) -> u8 {
+    if text.len() <= at {
+        return 0;
+    }
+    text[at]
+}
+
 // The place of the next byte of a kind, or the end.
-fn place_of(text: &[u8], from: usize, c: u8) -> usize
+pub(crate) fn place_of(text: &[u8], from: usize, c: u8) -> usize
     ensures { λ r. ⌜ from ≤ r ⌝ }
 {
     let mut at = from;
@@ -96,14 +124,8 @@ fn place_of(text: &[u8], from: usize, c: u8) -> usize
     at
 }
 
-// The place of the next line's end.
-pub(crate) fn line_end(text: &[u8], from: usize) -> usize
-    ensures { λ r. ⌜ from ≤ r ⌝ }
-{
-    place_of(text, from, b'\n')
-}
-
-// The place of the next blank.
-pub(crate) fn word_end(text: &[u8], from: usize) -> usize {
-    place_of(text, from, b' ')
+// The line that begins at a place.
+pub(crate) fn line_at(text: &[u8], from: usize) -> &[u8] {
+    let end = place_of(text, from, b'\n');
+    unread(text, Held { from, end })
 }

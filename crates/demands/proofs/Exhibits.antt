@@ -18,11 +18,11 @@ use Rattle.standard.specs.Written.{Bytes}
 use Rattle.standard.specs.Codes.{entry, starts, published, codes, table1, pair, lowBits}
 use Rattle.standard.specs.CodesLaws.{In, here}
 use Rattle.standard.specs.Bits.{between}
-use Rattle.standard.specs.Header.{headerOf, isMpeg1, isHeader, mainSize, noHeader}
+use Rattle.standard.specs.Header.{headerOf, isHeader, mainSize, noHeader}
 use Rattle.standard.specs.HeaderBytes.{header-known}
-use Rattle.standard.specs.Record.{shapeOf, absent, recordOf, isRecord}
+use Rattle.standard.specs.Record.{shapeBy, shapeOf, absent, recordOf, isRecord}
 use Rattle.standard.specs.RecordBits.{record-known}
-use Rattle.standard.specs.SideInfo.{isSide}
+use Rattle.standard.specs.SideInfo.{isRecordUnder, isSide}
 use Rattle.standard.specs.SideLaws.{slot-record}
 use Rattle.standard.specs.Slots.{Outcome, slotsOf, readSlots, slotsTold, numbersFrom, records}
 use Rattle.standard.specs.SlotsLaws.{read-call}
@@ -33,11 +33,11 @@ use Rattle.standard.specs.Reservoir.{turnVerdict, emptied as nothing, bytesAfte
 use Rattle.standard.specs.Frame.{Step, frameCall, frameOf, noStep}
 use Rattle.standard.specs.FrameLaws.{call-fits}
 use Rattle.standard.specs.StepLaws.{way}
-use Rattle.standard.specs.Worked.{frameF, long, reachingBack, step, slotsBy}
+use Rattle.standard.specs.Worked.{frameF, long, reachingBack, upFrom, step, slotsBy}
 use Rattle.standard.specs.declared.FrameHeader.{FrameHeader}
 use Rattle.standard.specs.declared.SideInfo.{SideInfo}
 use Rattle.standard.specs.declared.SlotRecord.{SlotRecord}
-use Rattle.standard.specs.declared.Shape.the-variants.{AllShort}
+use Rattle.standard.specs.declared.BlockType.the-variants.{Short}
 use Rattle.standard.specs.declared.SampleRate.the-variants.{Hz44100}
 use Rattle.standard.specs.declared.Reservoir.{Reservoir}
 use Rattle.standard.specs.declared.Verdict.{Verdict}
@@ -233,7 +233,7 @@ pub handed-on : (main : List ℕ) → (slotsHeader (from-main main) ≡ f 0 .ans
 unfolding from-main slotsCall f a-frame frameStep
 handed-on main = (ap (λ (p : Step). p .header) (sym (comes-to frameF 0)), ap (λ (p : Step). p .info) (sym (comes-to frameF 0)), refl)
 
--- a header at 44.1 kHz, a short block's record under it, and numbers that begin with 1 to 12
+-- a header at 44.1 kHz, under it the records of a short block and of a mixed one, and numbers that count up from 1
 abbrev bytes44 : List ℕ
 bytes44 = 0xFF ∷ 0xFB ∷ 0x90 ∷ 0x00 ∷ []
 
@@ -241,41 +241,48 @@ unfoldable header44 : FrameHeader
 unfolding step toldOr
 header44 = toldOr noHeader (headerOf bytes44)
 
-abbrev bitsShort : List Bool
-bitsShort = replicate 33 false ++ true ∷ true ∷ replicate 24 false
+abbrev bitsShort : Bool → List Bool
+bitsShort mixed = replicate 33 false ++ true ∷ true ∷ false ∷ mixed ∷ replicate 22 false
 
-unfoldable shortRecord : SlotRecord
+unfoldable shortRecord : Bool → SlotRecord
 unfolding step toldOr
-shortRecord = toldOr absent (recordOf true bitsShort)
+shortRecord mixed = toldOr absent (recordOf true false (bitsShort mixed))
 
 header44-known : isHeader header44 ≡ true
 unfolding header44 every
 header44-known = header-known bytes44 header44 (bytes-of bytes44 refl) refl
 
-short-known : isRecord true shortRecord ≡ true
+short-known : (mixed : Bool) → isRecord true false (shortRecord mixed) ≡ true
 unfolding shortRecord
-short-known = record-known true bitsShort shortRecord refl
+short-known true = record-known true false (bitsShort true) (shortRecord true) refl
+short-known false = record-known true false (bitsShort false) (shortRecord false) refl
 
-abbrev firstTwelve : List ℤ
-firstTwelve = pos 1 ∷ pos 2 ∷ pos 3 ∷ pos 4 ∷ pos 5 ∷ pos 6 ∷ pos 7 ∷ pos 8 ∷ pos 9 ∷ pos 10 ∷ pos 11 ∷ pos 12 ∷ []
+abbrev counting : List ℤ
+counting = upFrom 1 48 ++ replicate 528 (pos 0)
 
-abbrev before : List ℤ
-before = firstTwelve ++ replicate 564 (pos 0)
-
-pub short-reordered : (c : ReorderCall) × (isHeader (reorderHeader c) ≡ true) × (reorderHeader c .rate ≡ Hz44100)
-    × (isRecord (isMpeg1 (reorderHeader c .version)) (reorderRecord c) ≡ true) × (shapeOf (reorderRecord c) ≡ AllShort) × (576 ≤ length (reorderNumbers c))
-    × (take 576 (reorderNumbers c) ≡ firstTwelve ++ replicate 564 (pos 0))
-unfolding reorderCall header44 shortRecord verdictOf
-short-reordered = (
-  reorderCall header44 shortRecord before Accepted
-      (sym (ap verdictOf (reorder-laws.in-order header44 shortRecord before (omega arith) header44-known short-known))),
+pub short-reordered : (mixed : Bool)
+    → (c : ReorderCall) × (isHeader (reorderHeader c) ≡ true) × (reorderHeader c .rate ≡ Hz44100)
+    × (isRecordUnder (reorderHeader c) (reorderRecord c) ≡ true)
+    × (shapeOf (reorderRecord c) ≡ shapeBy Short mixed) × (576 ≤ length (reorderNumbers c))
+    × (reorderNumbers c ≡ upFrom 1 48 ++ replicate 528 (pos 0))
+unfolding reorderCall header44 shortRecord verdictOf upFrom
+short-reordered mixed = (
+  reorderCall header44 (shortRecord mixed) counting Accepted
+      (sym (ap verdictOf (reorder-laws.in-order header44 (shortRecord mixed) counting enough header44-known (short-known mixed)))),
   header44-known,
   refl,
-  short-known,
-  refl,
-  omega arith,
+  short-known mixed,
+  shape mixed,
+  enough,
   refl,
 )
+  where
+    enough : 576 ≤ length counting
+    enough = omega arith
+
+    shape : (mixed : Bool) → shapeOf (shortRecord mixed) ≡ shapeBy Short mixed
+    shape true = refl
+    shape false = refl
 
 pub f-counted : Bytes (frame (f 0)) × (f 0 .answer .verdict ≡ Accepted) × (slotSaid (f 0 .answer .slots) 0 .outcome ≡ Read 6)
 unfolding f a-frame frameStep step answersOf answerOf

@@ -4,7 +4,7 @@
 -- Proved over the promises of is_header, is_side_info, is_record, read_frame_header and read_side_info, from HeaderBytes and SideBytes of
 -- `standard`, where the bytes are written down. Bytes are numbers below 256.
 use mathlib.Core.Path.{_≡_, refl, sym, ap, _∙_}
-use mathlib.Core.Bool.{true}
+use mathlib.Core.Bool.{true, false}
 use mathlib.Core.Logic.{_↔_}
 use mathlib.Core.List.{List}
 use Prim.Native.Nat.{ℕ, _*_, _<_}
@@ -14,12 +14,16 @@ use Rattle.standard.specs.Told.{Told, refused, told, toldOr, verdictOf}
 use Rattle.standard.specs.Refusals.{toldHeader, Answers}
 use Rattle.standard.specs.RefusalsLaws.{unlike, answers-told}
 use Rattle.standard.specs.Written.{Bytes}
-use Rattle.standard.specs.Header.{headerOf, isHeader, granules, channelCount}
+use Rattle.standard.specs.Header.{headerOf, isHeader, isMpeg1, isSlow, granules, channelCount}
 use Rattle.standard.specs.HeaderBytes.{header-read, header-known}
-use Rattle.standard.specs.Record.{absent}
+use Rattle.standard.specs.Record.{absent, shapeOf, isMixed, isRecord}
 use Rattle.standard.specs.SideInfo.{sideOf}
 use Rattle.standard.specs.SideBytes.{side-read, slot-read}
+use Rattle.standard.specs.SideLaws as record-laws
 use Rattle.standard.specs.declared.FrameHeader.{FrameHeader}
+use Rattle.standard.specs.declared.SampleRate.{SampleRate}
+use Rattle.standard.specs.declared.SampleRate.the-variants.{Hz8000}
+use Rattle.standard.specs.declared.BlockType.the-variants.{Long}
 use Rattle.standard.specs.declared.SideInfo.{SideInfo}
 use Rattle.standard.specs.declared.HeaderAnswer.the-variants.{Header}
 use Rattle.standard.specs.declared.Verdict.{Verdict}
@@ -93,3 +97,12 @@ record-accepted c known =
       λ e. let w = both .0 (sym (c .promised) ∙ e) in (w .0, w .1, w .2, w .3, w .4, reads-header (w .5), reads-side (w .6), w .7),
       λ w. c .promised ∙ both .1 (w .0, w .1, w .2, w .3, w .4, header-told (w .5), side-told (w .6), w .7),
     )
+
+-- ---- and of mixed_block_flag: a record of a window that is not switched has it not, nor has at 8 kHz that of a short block
+pub long-unflagged : (c : IsRecordCall) → c .answer ≡ true → c .args .1 .0 .«block_type» ≡ Long → c .args .1 .0 .«mixed_block_flag» ≡ false
+long-unflagged c e = record-laws.long-unflagged (isMpeg1 (c .args .0 .version)) (isSlow (c .args .0 .rate)) (c .args .1 .0) (sym (c .promised) ∙ e)
+
+pub slow-unmixed : (c : IsRecordCall) → c .answer ≡ true → c .args .0 .rate ≡ Hz8000 → isMixed (shapeOf (c .args .1 .0)) ≡ false
+slow-unmixed c e f =
+    record-laws.slow-unmixed (isMpeg1 (c .args .0 .version)) (c .args .1 .0)
+    (sym (ap (λ (x : SampleRate). isRecord (isMpeg1 (c .args .0 .version)) (isSlow x) (c .args .1 .0)) f) ∙ sym (c .promised) ∙ e)

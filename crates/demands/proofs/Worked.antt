@@ -2,29 +2,27 @@
 -- definition; here each is what a call answers and leaves, whatever was lent, over the promises of process_frame, read_slots and reorder.
 use mathlib.Core.Path.{_≡_, sym, ap, _∙_}
 use mathlib.Core.Bool.{true}
-use mathlib.Core.List.{List, [], _∷_, _++_, map}
+use mathlib.Core.List.{List, [], _∷_, _++_}
 use Prim.Native.Nat.{ℕ, _≤_}
 use lib.IntN.{ℤ}
-use lib.ListN.{length, take, drop}
-use lib.Seq.{take-at}
+use lib.ListN.{length, take}
 use Rattle.standard.specs.Told.{Told, told, toldOr, verdictOf}
 use Rattle.standard.specs.RefusalsLaws.{unlike}
 use Rattle.standard.specs.Written.{Bytes}
-use Rattle.standard.specs.Header.{isMpeg1, isHeader}
-use Rattle.standard.specs.SideInfo.{isSide}
-use Rattle.standard.specs.Record.{shapeOf, isRecord}
+use Rattle.standard.specs.Header.{isHeader}
+use Rattle.standard.specs.SideInfo.{isRecordUnder, isSide}
+use Rattle.standard.specs.Record.{shapeOf}
 use Rattle.standard.specs.Slots.{Outcome, slotsTold, numbersFrom, readSlots}
 use Rattle.standard.specs.SlotsLaws.{read-call}
 use Rattle.standard.specs.Reservoir.{Kept, reservoirAfter, bytesAfter as bytesKept}
 use Rattle.standard.specs.Frame.{Step, noStep, shortStep, fullStep, frameOf, frameCall}
 use Rattle.standard.specs.FrameLaws.{call-fits}
 use Rattle.standard.specs.StepLaws.{Way, refusedWay, shortWay, fullWay, way}
-use Rattle.standard.specs.Reorder.{firstShort, gathered, orderOf, reorderedFrom}
-use Rattle.standard.specs.ReorderLaws.{in-order, short-order, length-order}
+use Rattle.standard.specs.Reorder.{firstShort, reorderedFrom}
+use Rattle.standard.specs.ReorderLaws.{in-order}
 use Rattle.standard.specs.Worked.{Row, ofFrame, ofMain, ofOrder, table, step, slotsBy, ordered, IsSo, AllSo, starred}
 use Rattle.standard.specs.declared.SampleRate.{SampleRate}
 use Rattle.standard.specs.declared.Shape.{Shape}
-use Rattle.standard.specs.declared.Shape.the-variants.{AllShort}
 use Rattle.standard.specs.declared.Verdict.the-variants.{Accepted}
 use Rattle.demands.proofs.Calls.{FrameStep, frame, bytes, reservoir, numbers, bytesAfter, numbersAfter, SlotsCall, slotsHeader, slotsInfo, mainData, slotsNumbers, slotsNumbersAfter, ReorderCall, reorderHeader, reorderRecord, reorderNumbers, reorderNumbersAfter}
 use Rattle.demands.proofs.Bounds.{entire-known}
@@ -49,11 +47,11 @@ Promised (ofMain s main os) =
     → slotsInfo c ≡ b .answer .info
     → mainData c ≡ main → 2304 ≤ length (slotsNumbers c)
     → (c .answer .verdict ≡ Accepted) × (c .answer .slots ≡ slotsTold os) × (slotsNumbersAfter c ≡ numbersFrom 0 os (slotsNumbers c))
-Promised (ofOrder rate before after) =
+Promised (ofOrder rate k before after) =
     (c : ReorderCall) → isHeader (reorderHeader c) ≡ true → reorderHeader c .rate ≡ rate
-    → isRecord (isMpeg1 (reorderHeader c .version)) (reorderRecord c) ≡ true
-    → shapeOf (reorderRecord c) ≡ AllShort → 576 ≤ length (reorderNumbers c) → (rest : List ℤ) → take 576 (reorderNumbers c) ≡ before ++ rest
-    → (c .answer ≡ Accepted) × (take (length after) (take 576 (reorderNumbersAfter c)) ≡ after)
+    → isRecordUnder (reorderHeader c) (reorderRecord c) ≡ true
+    → shapeOf (reorderRecord c) ≡ k → 576 ≤ length (reorderNumbers c) → (rest : List ℤ) → reorderNumbers c ≡ before ++ rest
+    → (c .answer ≡ Accepted) × (take (length after) (reorderNumbersAfter c) ≡ after)
 
 -- ---- a frame
 step-is : (c : FrameStep) (s old : List ℕ) → Lent c s old → frameCall (frame c) (bytes c) (reservoir c .length) (length (numbers c)) ≡ step s old
@@ -97,25 +95,19 @@ main-so s main os so b l bs v c same-header same-info same-main enough =
     )
 
 -- ---- the reorder
-order-so : (rate : SampleRate) (before after : List ℤ) → IsSo (ofOrder rate before after) → Promised (ofOrder rate before after)
+order-so : (rate : SampleRate) (k : Shape) (before after : List ℤ) → IsSo (ofOrder rate k before after) → Promised (ofOrder rate k before after)
 unfolding ordered verdictOf toldOr
-order-so rate before after so c known same-rate fits short enough rest first =
-    let d = reorderNumbers c in
-    let t = in-order (reorderHeader c) (reorderRecord c) d enough known fits
-    ∙ ap (λ (k : Shape). told (reorderedFrom (reorderHeader c .rate) (firstShort k) d)) short
-    ∙ ap told (short-order (reorderHeader c .rate) d) in
-    let g = gathered (orderOf (reorderHeader c .rate) 0) (take 576 d) in (
+order-so rate k before after so c known same-rate fits shape enough rest first =
+    let t = in-order (reorderHeader c) (reorderRecord c) (reorderNumbers c) enough known fits
+    ∙ (λ j. told (reorderedFrom (same-rate j) (firstShort (shape j)) (first j))) in (
       c .promised .verdict ∙ ap verdictOf t,
-      ap (λ (x : List ℤ). take (length after) (take 576 x)) (c .promised .value ∙ ap (toldOr d) t)
-          ∙ ap (take (length after))
-          (take-at g (drop 576 d) 576 (length-order (reorderHeader c .rate) (take 576 d)) ∙ (λ j. gathered (orderOf (same-rate j) 0) (first j)))
-          ∙ so rest,
+      ap (take (length after)) (c .promised .value ∙ ap (toldOr (reorderNumbers c)) t) ∙ so rest,
     )
 
 row-so : (r : Row) → IsSo r → Promised r
 row-so (ofFrame s old v os k) so = frame-so s old v os k so
 row-so (ofMain s main os) so = main-so s main os so
-row-so (ofOrder rate before after) so = order-so rate before after so
+row-so (ofOrder rate k before after) so = order-so rate k before after so
 
 all-so : (rs : List Row) → AllSo IsSo rs → AllSo Promised rs
 all-so [] a = tt

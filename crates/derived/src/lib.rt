@@ -11,9 +11,10 @@ use standard::SampleRate;
 use standard::Shape;
 ghost use mathlib.Core.Path.{_≡_};
 ghost use Prim.Native.Nat.{_*_, _/_};
-ghost use Rattle.standard.specs.Record.{shapeBy};
+ghost use Rattle.standard.specs.Record.{shapeBy, isMixed};
+ghost use Rattle.standard.specs.Factors.{mayShare};
 ghost use Rattle.standard.specs.Refusals.{numberOf, offsetOf};
-ghost use Rattle.standard.specs.Header.{«bps», «hz», isMpeg1, isTwo, isIntensity};
+ghost use Rattle.standard.specs.Header.{«bps», «hz», isMpeg1, isTwo, isSlow, isIntensity};
 ghost use Rattle.standard.specs.Header.{slotBytes, headerSize, dataSize, frameLength, sideBytes, sideSize, mainSize, «granules», channelCount};
 
 // ---- what the fields say
@@ -103,14 +104,62 @@ pub fn is_intensity(c: Channels) -> bool
 }
 
 // Which bands a slot's factors and numbers are of.
-pub fn shape_of(b: BlockType) -> Shape
-    ensures { λ r. ⌜ r ≡ shapeBy b ⌝ }
+pub fn shape_of(b: BlockType, mixed: bool) -> Shape
+    ensures { λ r. ⌜ r ≡ shapeBy b mixed ⌝ }
 {
     match b {
         BlockType::Long => Shape::AllLong,
         BlockType::Start => Shape::AllLong,
-        BlockType::Short => Shape::AllShort,
+        BlockType::Short => short_shape(mixed),
         BlockType::End => Shape::AllLong,
+    }
+}
+
+fn short_shape(mixed: bool) -> Shape
+    ensures { λ r. ⌜ r ≡ shapeBy BlockType.Short mixed ⌝ }
+{
+    if mixed {
+        return Shape::LongThenShort;
+    }
+    Shape::AllShort
+}
+
+// Whether long bands come before short ones.
+pub fn is_mixed(shape: Shape) -> bool
+    ensures { λ r. ⌜ r ≡ isMixed shape ⌝ }
+{
+    match shape {
+        Shape::AllLong => false,
+        Shape::AllShort => false,
+        Shape::LongThenShort => true,
+    }
+}
+
+// Whether factors may be granule 0's: those of long bands alone (scfsi).
+pub fn may_share(shape: Shape) -> bool
+    ensures { λ r. ⌜ r ≡ mayShare shape ⌝ }
+{
+    match shape {
+        Shape::AllLong => true,
+        Shape::AllShort => false,
+        Shape::LongThenShort => false,
+    }
+}
+
+// Whether the rate is 8 kHz.
+pub fn is_slow(f: SampleRate) -> bool
+    ensures { λ r. ⌜ r ≡ isSlow f ⌝ }
+{
+    match f {
+        SampleRate::Hz8000 => true,
+        SampleRate::Hz11025 => false,
+        SampleRate::Hz12000 => false,
+        SampleRate::Hz16000 => false,
+        SampleRate::Hz22050 => false,
+        SampleRate::Hz24000 => false,
+        SampleRate::Hz32000 => false,
+        SampleRate::Hz44100 => false,
+        SampleRate::Hz48000 => false,
     }
 }
 

@@ -89,7 +89,7 @@ fn put_slot_factors(out: &mut [u8], at: usize, s: SlotAnswer) -> usize {
     put_factors(out, next, b"short", &short)
 }
 
-// A slot that was read: its count, factors and numbers, and of a short block its numbers after the reorder.
+// A slot that was read: its count, factors and numbers, and where there are short bands its numbers after the reorder.
 fn put_read(
     out: &mut [u8],
     at: usize,
@@ -102,10 +102,11 @@ fn put_read(
     let a = put_slot_factors(&mut *out, at, s);
     let b = put_signs(&mut *out, a, b"numbers", part(numbers, 0, count as usize));
     let block = r.block_type;
-    let shape = shape_of(block);
+    let shape = shape_of(block, r.mixed_block_flag);
     match shape {
         Shape::AllLong => b,
         Shape::AllShort => put_reordered(out, b, h, r, numbers),
+        Shape::LongThenShort => put_reordered(out, b, h, r, numbers),
     }
 }
 

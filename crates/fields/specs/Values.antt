@@ -1,6 +1,6 @@
 -- The fields of a header, of side information and of a slot's record as numbers, in the order of the bits that they are read from.
 use mathlib.Core.Bool.{Bool, true, false}
-use mathlib.Core.List.{List, [], _∷_, _++_, map}
+use mathlib.Core.List.{List, [], _∷_}
 use Prim.Native.Nat.{ℕ}
 use lib.Dec.{eqb}
 use lib.ListN.{getD}
@@ -77,7 +77,7 @@ noGain = nan
 -- a gain is told by its number, 0 to 7
 unfoldable pub recordValues : SlotRecord → List ℕ
 recordValues r =
-    r .«part2_3_length» ∷ r .«big_values» ∷ r .«global_gain» ∷ r .«scalefac_compress» ∷ blockNumber (r .«block_type»)
+    r .«part2_3_length» ∷ r .«big_values» ∷ r .«global_gain» ∷ r .«scalefac_compress» ∷ blockNumber (r .«block_type») ∷ bitOf (r .«mixed_block_flag»)
     ∷ gainNumber (getD (r .«subblock_gain») 0 noGain) ∷ gainNumber (getD (r .«subblock_gain») 1 noGain) ∷ gainNumber (getD (r .«subblock_gain») 2 noGain)
     ∷ getD (r .«table_select») 0 0 ∷ getD (r .«table_select») 1 0 ∷ getD (r .«table_select») 2 0
     ∷ r .«region0_count» ∷ r .«region1_count» ∷ bitOf (r .preflag) ∷ bitOf (r .«scalefac_scale») ∷ bitOf (r .«count1table_select») ∷ []
@@ -87,7 +87,7 @@ unfoldable pub scaleValues : SlotRecord → List ℕ
 scaleValues r =
     blockNumber (r .«block_type») ∷ r .«global_gain»
     ∷ gainNumber (getD (r .«subblock_gain») 0 noGain) ∷ gainNumber (getD (r .«subblock_gain») 1 noGain) ∷ gainNumber (getD (r .«subblock_gain») 2 noGain)
-    ∷ bitOf (r .«scalefac_scale») ∷ bitOf (r .preflag) ∷ []
+    ∷ bitOf (r .«scalefac_scale») ∷ bitOf (r .preflag) ∷ bitOf (r .«mixed_block_flag») ∷ []
 
 -- ---- what a frame's answer tells, and where the next try begins
 -- the fields are told of a frame that was read, and of one that only reaches too far back

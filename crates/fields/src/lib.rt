@@ -131,7 +131,7 @@ pub fn side_values(i: SideInfo) -> [u64; 9]
 }
 
 // A record's fields as numbers, its gains as 0 to 7.
-pub fn record_values(r: SlotRecord) -> [u64; 16]
+pub fn record_values(r: SlotRecord) -> [u64; 17]
     ensures { λ v. ⌜ v ≡ recordValues r ⌝ }
 {
     let block = r.block_type;
@@ -143,6 +143,7 @@ pub fn record_values(r: SlotRecord) -> [u64; 16]
         r.global_gain as u64,
         r.scalefac_compress as u64,
         wide(block_number(block)),
+        wide(bit_of(r.mixed_block_flag)),
         wide(gain_number(g[0])),
         wide(gain_number(g[1])),
         wide(gain_number(g[2])),
@@ -157,8 +158,9 @@ pub fn record_values(r: SlotRecord) -> [u64; 16]
     ]
 }
 
-// What a slot's numbers are scaled by (11172-3, 2.4.3.4.7.1): its block type, global_gain, the three subblock gains as 0 to 7, scalefac_scale and preflag.
-pub fn scale_values(r: SlotRecord) -> [u8; 7]
+// What a slot's numbers are scaled by (11172-3, 2.4.3.4.7.1): its block type, global_gain, the three subblock gains as 0 to 7, scalefac_scale, preflag
+// and mixed_block_flag, the last to be told.
+pub fn scale_values(r: SlotRecord) -> [u8; 8]
     ensures { λ v. ⌜ v ≡ scaleValues r ⌝ }
 {
     let block = r.block_type;
@@ -171,6 +173,7 @@ pub fn scale_values(r: SlotRecord) -> [u8; 7]
         gain_number(g[2]),
         bit_of(r.scalefac_scale),
         bit_of(r.preflag),
+        bit_of(r.mixed_block_flag),
     ]
 }
 

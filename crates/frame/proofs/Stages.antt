@@ -1,5 +1,5 @@
 -- What a frame's accepted header and side information say of its sizes: its main data fits the reservoir's memory.
-use mathlib.Core.Path.{_≡_, refl, sym, ap, _∙_, subst}
+use mathlib.Core.Path.{_≡_, refl, sym, _∙_, subst}
 use mathlib.Core.Bool.{Bool, true, false}
 use mathlib.Core.List.{List}
 use Prim.Native.Nat.{ℕ, _+_, _-_, _≤_}
@@ -9,7 +9,7 @@ use lib.ListN.{length, take, drop, length-drop}
 use lib.Seq.{length-take-le}
 use Rattle.standard.specs.Told.{Told, refused, told, pick}
 use Rattle.standard.specs.RefusalsLaws.{apart}
-use Rattle.standard.specs.Header.{isMpeg1, isTwo, isHeader, headerOf, headerSize, sideSize, mainSize, frameLength, dataSize}
+use Rattle.standard.specs.Header.{isMpeg1, isTwo, isSlow, isHeader, headerOf, headerSize, sideSize, mainSize, frameLength}
 use Rattle.standard.specs.HeaderLaws.{main-and-side, reservoir-le}
 use Rattle.standard.specs.SideInfo.{sideFrom, sideOf, isSide}
 use Rattle.standard.specs.Reservoir.{turnOf, turnIn, Turned}
@@ -31,7 +31,7 @@ asked x false e = apart e
 -- side information is read only under a header that some bytes read to
 pub side-header : (h : FrameHeader) (i : SideInfo) (s : List ℕ) → sideOf h s ≡ told i → isHeader h ≡ true
 unfolding sideOf
-side-header h i s e = asked (sideFrom (isMpeg1 (h .version)) (isTwo (h .channels)) (headerSize h) s) (isHeader h) e
+side-header h i s e = asked (sideFrom (isMpeg1 (h .version)) (isTwo (h .channels)) (isSlow (h .rate)) (headerSize h) s) (isHeader h) e
 
 pub parts : (h : FrameHeader) → isHeader h ≡ true → headerSize h + sideSize h + mainSize h ≡ frameLength h
 unfolding frameLength

@@ -1,25 +1,25 @@
 -- Rows written piece by piece, and what the exported calls answer at each of their returns.
 use mathlib.Core.Path.{_≡_, refl, sym, ap, _∙_, subst}
 use mathlib.Core.Bool.{true, false, _||_}
-use mathlib.Core.List.{List, [], _∷_, _++_, append-assoc}
+use mathlib.Core.List.{List, [], _++_, append-assoc}
 use Prim.Native.Nat.{ℕ, suc, _+_, _*_, _≤_, _<_}
 use native.Mathlib.Omega.{arith}
 use borrow.Author.Tests.{lt-ltb, le-ltb}
 use lib.Dec.{ltb}
 use lib.IntN.{ℤ}
-use lib.ListN.{length, getD, take, drop, set, length-set, length-append, length-map, drop-of-length-le, List·getD-map}
+use lib.ListN.{length, getD, take, drop, set, length-set, length-append, drop-of-length-le}
 use lib.Seq.{paste, length-paste, take-append-le, drop-cons, drop-at}
 use Rattle.standard.specs.Sizes.{perFrame}
 use Rattle.standard.specs.Told.{Told, refused, told, verdictOf, toldOr}
 use Rattle.standard.specs.ToldLaws.{picked, passed}
-use Rattle.standard.specs.Refusals.{numberOf, Answers}
+use Rattle.standard.specs.Refusals.{Answers}
 use Rattle.standard.specs.CopyLaws.{copying-begin, copying-turn, paste-next}
 use Rattle.standard.specs.declared.SlotRecord.{SlotRecord}
 use Rattle.standard.specs.declared.SlotAnswer.{SlotAnswer}
 use Rattle.standard.specs.declared.FrameHeader.{FrameHeader}
 use Rattle.standard.specs.declared.SideInfo.{SideInfo}
 use Rattle.standard.specs.declared.Verdict.{Verdict}
-use Rattle.standard.specs.declared.Verdict.the-variants.{Accepted, Refused}
+use Rattle.standard.specs.declared.Verdict.the-variants.{Refused}
 use Rattle.standard.specs.declared.SlotsAnswer.{SlotsAnswer}
 use Rattle.standard.specs.declared.FrameAnswer.{FrameAnswer}
 use Rattle.standard.specs.declared.Refusal.{Refusal}
@@ -41,7 +41,7 @@ use Rattle.front_end.specs.Calls.{perRow, perRows, callTold, saidNumber,
 -- a row written in its five pieces
 module _ (d : List ℕ) (at : ℕ) (r : SlotRecord) (t : SlotAnswer) (long : length (t .long) ≡ 22) (short : length (t .short) ≡ 39)
     (room : at + perRow ≤ length d) where
-  scale-length : length (scaleValues r) ≡ 7
+  scale-length : length (scaleValues r) ≡ 8
   unfolding scaleValues
   scale-length = refl
 
@@ -68,13 +68,13 @@ module _ (d : List ℕ) (at : ℕ) (r : SlotRecord) (t : SlotAnswer) (long : len
       paste-next (slotRow r t) d (t .short) at 24 39 (omega arith) (omega (arith, row-length))
       (sym (ap (take 39) (drop-at (t .long) (t .short ++ scaleValues r) 22 long) ∙ take-append-le 39 (t .short) (scaleValues r) (omega (arith, short))))
 
-  row-scale : paste (paste d at (slotRow r t) 63) (at + 63) (scaleValues r) 7 ≡ paste d at (slotRow r t) perRow
+  row-scale : paste (paste d at (slotRow r t) 63) (at + 63) (scaleValues r) 8 ≡ paste d at (slotRow r t) perRow
   unfolding slotRow
   row-scale =
       let both : length (t .long ++ t .short) ≡ 61 = simp length-append (omega (arith, long, short)) in
-      paste-next (slotRow r t) d (scaleValues r) at 63 7 (omega arith) (omega (arith, row-length))
-      (sym (ap (λ (x : List ℕ). take 7 (drop 61 x)) (sym (append-assoc (t .long) (t .short) (scaleValues r)))
-      ∙ ap (take 7) (drop-at (t .long ++ t .short) (scaleValues r) 61 both)))
+      paste-next (slotRow r t) d (scaleValues r) at 63 8 (omega arith) (omega (arith, row-length))
+      (sym (ap (λ (x : List ℕ). take 8 (drop 61 x)) (sym (append-assoc (t .long) (t .short) (scaleValues r)))
+      ∙ ap (take 8) (drop-at (t .long ++ t .short) (scaleValues r) 61 both)))
 
   pub row-put : {x y : ℕ} {v : List ℕ} → x ≡ saidNumber (t .outcome) → y ≡ saidCount (t .outcome) → v ≡ scaleValues r
       → paste (paste (paste (set (set d at x) (at + 1) y) (at + 2) (t .long) (length (t .long))) (at + 24) (t .short) (length (t .short))) (at + 63) v
@@ -82,8 +82,8 @@ module _ (d : List ℕ) (at : ℕ) (r : SlotRecord) (t : SlotAnswer) (long : len
       ≡ paste d at (slotRow r t) perRow
   row-put p q e =
       (λ j. paste (paste (paste (row-two p q j) (at + 2) (t .long) (long j)) (at + 24) (t .short) (short j)) (at + 63) (e j) ((ap length e ∙ scale-length) j))
-      ∙ ap (λ (x : List ℕ). paste (paste x (at + 24) (t .short) 39) (at + 63) (scaleValues r) 7) row-long
-      ∙ ap (λ (x : List ℕ). paste x (at + 63) (scaleValues r) 7) row-short
+      ∙ ap (λ (x : List ℕ). paste (paste x (at + 24) (t .short) 39) (at + 63) (scaleValues r) 8) row-long
+      ∙ ap (λ (x : List ℕ). paste x (at + 63) (scaleValues r) 8) row-short
       ∙ row-scale
 
 -- as many numbers after each of its pieces
@@ -102,7 +102,7 @@ module _ (d : List ℕ) (at x y : ℕ) (room : at + perRow ≤ length d) (long :
     pub after-short : length two ≡ length d
     after-short = as-many one (at + 24) short (omega (arith, s, after-long, room)) f ∙ after-long
 
-    pub after-scale : (scale : List ℕ) {three : List ℕ} → length scale ≡ 7 → three ≡ paste two (at + 63) scale (length scale) → length three ≡ length d
+    pub after-scale : (scale : List ℕ) {three : List ℕ} → length scale ≡ 8 → three ≡ paste two (at + 63) scale (length scale) → length three ≡ length d
     after-scale scale v g = as-many two (at + 63) scale (omega (arith, v, after-short, room)) g ∙ after-short
 
 -- slots in turn

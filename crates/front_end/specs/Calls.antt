@@ -37,13 +37,13 @@ abbrev pub callTold : Verdict → CallTold
 callTold (Refused r) = record { refusal = numberOf r; offset = offsetOf r }
 callTold Accepted = record { refusal = 0; offset = 0 }
 
--- ---- a slot's row: what became of it, its count, its 22 long factors and its 39 short ones, and 7 that its numbers are scaled by
+-- ---- a slot's row: what became of it, its count, its 22 long factors and its 39 short ones, and 8 that its numbers are scaled by
 abbrev pub perRow : ℕ
-perRow = 70
+perRow = 71
 
 -- and the rows of a frame's four slots
 abbrev pub perRows : ℕ
-perRows = 280
+perRows = 284
 
 -- 255 for a slot that the frame lacks, which no refusal has either
 abbrev pub saidNumber : SlotOutcome → ℕ

@@ -9,13 +9,12 @@ use standard::SlotOutcome;
 use standard::SlotRecord;
 use standard::Verdict;
 ghost use mathlib.Core.Path.{_≡_};
-ghost use mathlib.Core.List.{map};
 ghost use Prim.Native.Nat.{_+_, _≤_};
 ghost use lib.ListN.{length};
 ghost use lib.Seq.{paste};
 ghost use Rattle.front_end.specs.Calls.{perRow, perRows, callTold, saidNumber, saidCount, slotRow, rowsFrom, rowsAfter};
 
-// Where in a row the long factors begin, 22 numbers; the short ones, 39; and what the slot's numbers are scaled by, 7.
+// Where in a row the long factors begin, 22 numbers; the short ones, 39; and what the slot's numbers are scaled by, 8.
 const LONG_AT: usize = 2;
 
 const SHORT_AT: usize = LONG_AT + 22;
@@ -23,7 +22,7 @@ const SHORT_AT: usize = LONG_AT + 22;
 const SCALE_AT: usize = SHORT_AT + 39;
 
 // Numbers in a row, and in the rows of four slots, which a reader lends at least.
-const ROW: usize = SCALE_AT + 7;
+const ROW: usize = SCALE_AT + 8;
 
 pub(crate) const ROWS: usize = 4 * ROW;
 

@@ -23,7 +23,7 @@ ghost use lib.Seq.{paste};
 ghost use Rattle.standard.specs.Sizes.{perSlot, mostBigValues};
 ghost use Rattle.standard.specs.Bits.{between};
 ghost use Rattle.standard.specs.Record.{isLong};
-ghost use Rattle.standard.specs.Numbers.{quadTable, regionsBy, regionsOf, numbersOf};
+ghost use Rattle.standard.specs.Numbers.{quadTable, windowRegions, regionsBy, regionsOf, numbersOf};
 ghost use Rattle.codes.specs.Walk.{lookedUp};
 ghost use Rattle.huffman.specs.Slot.{slotNumbers, toldCount, countOf, numbersAfter};
 ghost use Rattle.huffman.specs.Runs.{NumbersRead};
@@ -62,18 +62,26 @@ fn long_regions(rate: SampleRate, r: SlotRecord) -> Regions
     }
 }
 
+// And where there are short bands, at every rate.
+fn window_regions() -> Regions
+    ensures { λ a. ⌜ a ≡ windowRegions ⌝ }
+{
+    Regions::Split {
+        first: 36,
+        second: SLOT_NUMBERS as u16,
+    }
+}
+
 // Where the tables of a slot's pairs change.
 fn regions_of(rate: SampleRate, r: SlotRecord) -> Regions
     ensures { λ a. ⌜ a ≡ regionsOf rate r ⌝ }
 {
     let block = r.block_type;
-    let shape = shape_of(block);
+    let shape = shape_of(block, r.mixed_block_flag);
     match shape {
         Shape::AllLong => long_regions(rate, r),
-        Shape::AllShort => Regions::Split {
-            first: 36,
-            second: SLOT_NUMBERS as u16,
-        },
+        Shape::AllShort => window_regions(),
+        Shape::LongThenShort => window_regions(),
     }
 }
 

@@ -1,36 +1,31 @@
 -- The slots of a frame in turn: what the k slots before came to, what is answered of them, and that the rest of the definition remains.
 use mathlib.Core.Path.{_≡_, refl, sym, ap, _∙_}
-use mathlib.Core.Bool.{Bool, true, false, not, _&&_, _||_}
+use mathlib.Core.Bool.{Bool, true, false}
 use mathlib.Core.List.{List, [], _∷_, _++_, append-assoc, append-nil, map}
-use Prim.Native.Nat.{ℕ, zero, suc, _+_, _-_, _*_, _≤_, _<_}
-use native.Mathlib.Nat.{add-zero}
+use Prim.Native.Nat.{ℕ, suc, _+_, _-_, _*_, _≤_, _<_}
 use native.Mathlib.Numerals.{add-one}
 use native.Mathlib.Decide.{decLe}
 use native.Mathlib.Omega.{arith}
 use borrow.Author.Tests.{lt-ltb, le-ltb}
 use borrow.Rule.Slice.PartMut.{midOf, putMid, put-same, mid-len}
-use lib.Dec.{leb}
 use lib.IntN.{ℤ}
 use lib.ListN.{length, getD, take, drop, set, replicate, length-append, length-drop, drop-of-length-le, List·getD-append, List·getD-map, length-map}
 use lib.Seq.{drop-drop, drop-cons, getD-take, length-take-le, set-at}
-use Rattle.standard.specs.Told.{pick}
 use Rattle.standard.specs.ToldLaws.{picked, passed}
-use Rattle.standard.specs.Bits.{bits}
-use Rattle.standard.specs.Header.{granulesIn, channelsIn, isMpeg1, isTwo, granules, channelCount}
+use Rattle.standard.specs.Header.{granulesIn, channelsIn, isMpeg1, isTwo, isSlow, granules, channelCount}
 use Rattle.standard.specs.Record.{absent}
 use Rattle.standard.specs.Numbers.{padded}
-use Rattle.standard.specs.Slots.{Outcome, alone, stopped, holds, isStopped, longOf, anyOf, sharesOf, settingOf, mateOf, slotIn, slotOf, thenSlots, slotsFrom, slotsOf, slotTold, lackingSlot, slotsTold, numbersAfter, numbersFrom, records}
+use Rattle.standard.specs.Slots.{Outcome, alone, stopped, holds, isStopped, longOf, settingOf, mateOf, slotIn, thenSlots, slotsFrom, slotsOf, slotTold, lackingSlot, slotsTold, numbersAfter, numbersFrom, records}
 use Rattle.standard.specs.CopyLaws.{paste-whole}
 use Rattle.standard.specs.RowsLaws.{getD-within}
 use Rattle.standard.specs.SideInfo.{isSide}
 use Rattle.standard.specs.SideLaws.{four-slots, slot-record, small-record}
-use Rattle.standard.specs.SlotsLaws.{padded-long, length-after}
+use Rattle.standard.specs.SlotsLaws.{length-after}
 use Rattle.standard.specs.declared.FrameHeader.{FrameHeader}
 use Rattle.standard.specs.declared.Setting.{Setting}
 use Rattle.standard.specs.declared.SideInfo.{SideInfo}
 use Rattle.standard.specs.declared.SlotRecord.{SlotRecord}
 use Rattle.standard.specs.declared.SlotAnswer.{SlotAnswer}
-use Rattle.standard.specs.declared.Refusal.the-variants.{MissingBits}
 use Rattle.main_data.specs.Slot.{SlotRead, saidRefused, noAnswer, mateIn, Mated}
 
 -- ---- the lent numbers
@@ -212,7 +207,7 @@ pub record-at : (h : FrameHeader) (i : SideInfo) → isSide h i ≡ true → (k 
 record-at h i e k c z =
     let f = four-slots h i e in
     let p : getD (i .slots) k z ≡ getD (i .slots) k absent = getD-within (i .slots) k z absent (omega (arith, four-at-most h)) in
-    let small = small-record (isMpeg1 (h .version)) (getD (i .slots) k absent) (slot-record h i e k c) in
+    let small = small-record (isMpeg1 (h .version)) (isSlow (h .rate)) (getD (i .slots) k absent) (slot-record h i e k c) in
     record {
       same = p;
       length-lt = omega (arith, ap (λ (r : SlotRecord). r .«part2_3_length») p, small .0);

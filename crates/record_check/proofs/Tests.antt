@@ -96,15 +96,16 @@ unfolding areShares
 shares-are n s e = rw (sub-zero, eq-eqb (length s) 8 e)
 
 -- ---- slots: n records, and then lacking ones
-abbrev pub slotsFrom : Bool → ℕ → ℕ → List SlotRecord → Bool
-slotsFrom m n i l = fitSlots m (n - i) l
+abbrev pub slotsFrom : Bool → Bool → ℕ → ℕ → List SlotRecord → Bool
+slotsFrom m w n i l = fitSlots m w (n - i) l
 
-abbrev pub slotTest : Bool → ℕ → ℕ → SlotRecord → Bool
-slotTest m n i r = pick (ltb i n) (isRecord m r) (isAbsent r)
+abbrev pub slotTest : Bool → Bool → ℕ → ℕ → SlotRecord → Bool
+slotTest m w n i r = pick (ltb i n) (isRecord m w r) (isAbsent r)
 
-pub slots-step : (m : Bool) (n i : ℕ) (r : SlotRecord) (l : List SlotRecord) → slotsFrom m n i (r ∷ l) ≡ slotTest m n i r && slotsFrom m n (i + 1) l
+pub slots-step : (m w : Bool) (n i : ℕ) (r : SlotRecord) (l : List SlotRecord)
+    → slotsFrom m w n i (r ∷ l) ≡ slotTest m w n i r && slotsFrom m w n (i + 1) l
 unfolding fitSlots pick
-slots-step m n i r l =
+slots-step m w n i r l =
     elim (decLe n i) [
       | yes h ↦
           let p : n - i ≡ 0 = omega arith in
@@ -116,17 +117,17 @@ slots-step m n i r l =
           rw (p, lt-ltb i n k)
     ]
 
-pub slots-none : (m : Bool) (n k : ℕ) → n ≤ k → fitSlots m (n - k) [] ≡ true
+pub slots-none : (m w : Bool) (n k : ℕ) → n ≤ k → fitSlots m w (n - k) [] ≡ true
 unfolding fitSlots
-slots-none m n k h = let q : n - k ≡ 0 = omega arith in rw q
+slots-none m w n k h = let q : n - k ≡ 0 = omega arith in rw q
 
-pub slots-are : (m : Bool) (n : ℕ) (s : List SlotRecord) → length s ≡ 4 → slotsFrom m n 0 s ≡ areSlots m n s
+pub slots-are : (m w : Bool) (n : ℕ) (s : List SlotRecord) → length s ≡ 4 → slotsFrom m w n 0 s ≡ areSlots m w n s
 unfolding areSlots
-slots-are m n s e = rw (sub-zero, eq-eqb (length s) 4 e)
+slots-are m w n s e = rw (sub-zero, eq-eqb (length s) 4 e)
 
 -- ---- the whole
-pub side-is : (mpeg1 two : Bool) (i : SideInfo) {l : Layout} {a b : Bool} → l ≡ layoutOf mpeg1 two → l .«main_data_begin» < 16
-    → a ≡ areShares (l .shares) (i .scfsi) → b ≡ areSlots mpeg1 (l .slots) (i .slots)
-    → ltb (i .«main_data_begin») (1 * 2 ^ l .«main_data_begin» % 2 ^ 16) && a && b ≡ isSideBy mpeg1 two i
+pub side-is : (mpeg1 two slow : Bool) (i : SideInfo) {l : Layout} {a b : Bool} → l ≡ layoutOf mpeg1 two → l .«main_data_begin» < 16
+    → a ≡ areShares (l .shares) (i .scfsi) → b ≡ areSlots mpeg1 slow (l .slots) (i .slots)
+    → ltb (i .«main_data_begin») (1 * 2 ^ l .«main_data_begin» % 2 ^ 16) && a && b ≡ isSideBy mpeg1 two slow i
 unfolding isSideBy
-side-is mpeg1 two i {l} e h f g = rw (mask 16 (l .«main_data_begin») h, f, g, e)
+side-is mpeg1 two slow i {l} e h f g = rw (mask 16 (l .«main_data_begin») h, f, g, e)

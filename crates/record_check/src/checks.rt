@@ -3,6 +3,7 @@ use crate::given::compress_width;
 use crate::given::first_region;
 use crate::given::second_region;
 use crate::layout::layout_of;
+use derived::is_mixed;
 use derived::shape_of;
 use standard::BlockType;
 use standard::MOST_BIG_VALUES;
@@ -11,7 +12,7 @@ use standard::SlotRecord;
 ghost use mathlib.Core.Path.{_≡_};
 ghost use Prim.Native.Nat.{_≤_};
 ghost use Rattle.standard.specs.Told.{pick};
-ghost use Rattle.standard.specs.Record.{gainNumber, gainBelow, trio, below, isLong, isHead, isLongBody, isSwitchedBody, isRecord};
+ghost use Rattle.standard.specs.Record.{gainNumber, gainBelow, trio, below, isLong, isHead, isUnmixed, isLongBody, isSwitchedBody, isRecord};
 ghost use Rattle.standard.specs.SideInfo.{isAbsent, areShares, areSlots, isSideBy};
 
 // The number of a gain, 0 to 7, or 8 where it is none: by its pattern, since -0.0 is not 0.0.
@@ -83,7 +84,7 @@ pub(crate) fn is_long_body(r: SlotRecord) -> bool
     let g = r.subblock_gain;
     let a = tables_below(t, 32, 32);
     let b = gains_below(g, 1);
-    a & b & ((r.region0_count < 16) & (r.region1_count < 8))
+    a & b & ((r.region0_count < 16) & (r.region1_count < 8)) & !r.mixed_block_flag
 }
 
 // And of one whose window is.
@@ -95,22 +96,32 @@ pub(crate) fn is_switched_body(r: SlotRecord) -> bool
     let k = r.block_type;
     let a = tables_below(t, 32, 1);
     let b = gains_below(g, 8);
-    let shape = shape_of(k);
+    let shape = shape_of(k, r.mixed_block_flag);
     let m = first_region(shape);
     let n = second_region(shape);
     a & b & ((r.region0_count == m) & (r.region1_count == n))
 }
 
+// Whether a record is one that 8 kHz allows, where that is the rate.
+fn is_unmixed(slow: bool, r: SlotRecord) -> bool
+    ensures { λ x. ⌜ x ≡ isUnmixed slow r ⌝ }
+{
+    let k = r.block_type;
+    let shape = shape_of(k, r.mixed_block_flag);
+    !(slow & is_mixed(shape))
+}
+
 // Whether some bits read to a slot's record.
-pub(crate) fn fits_record(mpeg1: bool, r: SlotRecord) -> bool
-    ensures { λ x. ⌜ x ≡ isRecord mpeg1 r ⌝ }
+pub(crate) fn fits_record(mpeg1: bool, slow: bool, r: SlotRecord) -> bool
+    ensures { λ x. ⌜ x ≡ isRecord mpeg1 slow r ⌝ }
 {
     let k = r.block_type;
     let head = is_head(mpeg1, r);
+    let unmixed = is_unmixed(slow, r);
     if is_long(k) {
-        return head & is_long_body(r);
+        return head & unmixed & is_long_body(r);
     }
-    head & is_switched_body(r)
+    head & unmixed & is_switched_body(r)
 }
 
 // Whether a record is that of a slot which the frame lacks.
@@ -123,7 +134,7 @@ pub(crate) fn is_absent(r: SlotRecord) -> bool
     let head = (r.part2_3_length == 0)
         & (r.big_values == 0)
         & ((r.global_gain == 0) & (r.scalefac_compress == 0));
-    let body = is_long(k) & gains_below(g, 1) & tables_below(t, 1, 1);
+    let body = is_long(k) & !r.mixed_block_flag & gains_below(g, 1) & tables_below(t, 1, 1);
     let tail = ((r.region0_count == 0) & (r.region1_count == 0))
         & (!r.preflag & !r.scalefac_scale & !r.count1table_select);
     head & body & tail
@@ -144,24 +155,24 @@ pub(crate) fn no_shares(n: usize, s: [bool; 8]) -> bool
 }
 
 // A slot that is there, or one that the frame lacks.
-pub(crate) fn slot_fits(mpeg1: bool, there: bool, r: SlotRecord) -> bool
-    ensures { λ x. ⌜ x ≡ pick there (isRecord mpeg1 r) (isAbsent r) ⌝ }
+pub(crate) fn slot_fits(mpeg1: bool, slow: bool, there: bool, r: SlotRecord) -> bool
+    ensures { λ x. ⌜ x ≡ pick there (isRecord mpeg1 slow r) (isAbsent r) ⌝ }
 {
     if there {
-        return fits_record(mpeg1, r);
+        return fits_record(mpeg1, slow, r);
     }
     is_absent(r)
 }
 
 // Four slots: n records, and then those of lacking slots.
-pub(crate) fn slots_fit(mpeg1: bool, n: usize, s: [SlotRecord; 4]) -> bool
+pub(crate) fn slots_fit(mpeg1: bool, slow: bool, n: usize, s: [SlotRecord; 4]) -> bool
     requires { ⌜ n ≤ 4 ⌝ }
-    ensures { λ r. ⌜ r ≡ areSlots mpeg1 n s ⌝ }
+    ensures { λ r. ⌜ r ≡ areSlots mpeg1 slow n s ⌝ }
 {
     let mut i = 0;
     while i < 4 {
         let r = s[i];
-        if !slot_fits(mpeg1, i < n, r) {
+        if !slot_fits(mpeg1, slow, i < n, r) {
             return false;
         }
         i += 1;
@@ -170,13 +181,13 @@ pub(crate) fn slots_fit(mpeg1: bool, n: usize, s: [SlotRecord; 4]) -> bool
 }
 
 // Whether some bytes read to side information.
-pub(crate) fn fits_side(mpeg1: bool, two: bool, i: SideInfo) -> bool
-    ensures { λ r. ⌜ r ≡ isSideBy mpeg1 two i ⌝ }
+pub(crate) fn fits_side(mpeg1: bool, two: bool, slow: bool, i: SideInfo) -> bool
+    ensures { λ r. ⌜ r ≡ isSideBy mpeg1 two slow i ⌝ }
 {
     let l = layout_of(mpeg1, two);
     let shares = i.scfsi;
     let slots = i.slots;
     let a = no_shares(l.shares, shares);
-    let b = slots_fit(mpeg1, l.slots, slots);
+    let b = slots_fit(mpeg1, slow, l.slots, slots);
     (i.main_data_begin < (1 << l.main_data_begin)) & a & b
 }

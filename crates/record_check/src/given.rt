@@ -20,6 +20,7 @@ pub fn first_region(shape: Shape) -> u8
     match shape {
         Shape::AllLong => 7,
         Shape::AllShort => 8,
+        Shape::LongThenShort => 7,
     }
 }
 
@@ -30,5 +31,6 @@ pub fn second_region(shape: Shape) -> u8
     match shape {
         Shape::AllLong => 13,
         Shape::AllShort => 12,
+        Shape::LongThenShort => 13,
     }
 }

@@ -2,14 +2,13 @@
 use crate::checks::fits_record;
 use crate::checks::fits_side;
 use derived::is_mpeg1;
+use derived::is_slow;
 use derived::is_two;
 use standard::FrameHeader;
 use standard::SideInfo;
 use standard::SlotRecord;
 ghost use mathlib.Core.Path.{_≡_};
-ghost use Rattle.standard.specs.Header.{isMpeg1};
-ghost use Rattle.standard.specs.Record.{isRecord};
-ghost use Rattle.standard.specs.SideInfo.{isSide};
+ghost use Rattle.standard.specs.SideInfo.{isRecordUnder, isSide};
 
 pub mod checks;
 pub mod given;
@@ -17,10 +16,11 @@ pub mod layout;
 
 // Whether some bits read to a slot's record, under a header.
 pub fn is_record(h: FrameHeader, r: SlotRecord) -> bool
-    ensures { λ x. ⌜ x ≡ isRecord (isMpeg1 (h .version)) r ⌝ }
+    ensures { λ x. ⌜ x ≡ isRecordUnder h r ⌝ }
 {
     let version = h.version;
-    fits_record(is_mpeg1(version), r)
+    let rate = h.rate;
+    fits_record(is_mpeg1(version), is_slow(rate), r)
 }
 
 // Whether some bytes read to side information, under a header.
@@ -29,5 +29,6 @@ pub fn is_side_info(h: FrameHeader, i: SideInfo) -> bool
 {
     let version = h.version;
     let channels = h.channels;
-    fits_side(is_mpeg1(version), is_two(channels), i)
+    let rate = h.rate;
+    fits_side(is_mpeg1(version), is_two(channels), is_slow(rate), i)
 }

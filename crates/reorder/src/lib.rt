@@ -84,6 +84,7 @@ fn first_short(shape: Shape) -> usize
     match shape {
         Shape::AllLong => 13,
         Shape::AllShort => 0,
+        Shape::LongThenShort => 3,
     }
 }
 
@@ -98,7 +99,7 @@ pub fn reorder(h: FrameHeader, r: SlotRecord, numbers: &mut [i32]) -> Verdict
     if is_header(h) {
         if is_record(h, r) {
             let block = r.block_type;
-            let first = first_short(shape_of(block));
+            let first = first_short(shape_of(block, r.mixed_block_flag));
             let rate = h.rate;
             reorder_from(rate, first, numbers);
             return Verdict::Accepted;

@@ -13,13 +13,14 @@ use Rattle.lent_bytes.specs.PutLaws.{put-whole}
 use Rattle.standard.specs.ToldLaws.{never}
 use Rattle.standard.specs.Record.{shapeOf}
 use Rattle.standard.specs.Bits.{bits}
-use Rattle.standard.specs.Factors.{planBy, planOf, group, groupsFrom, sourcesOf, mayShare, planBits, factorsFrom, longCount, shortCount, shortFrom, longFactors, shortFactors, bandsOf, factorCount}
-use Rattle.standard.specs.FactorsLaws.{few-factors, plan-bits-append, plan-length, lengths-small, shape-unshares, shape-unshared, plan-factors-length, short-length, room}
+use Rattle.standard.specs.Factors.{planBy, planOf, group, groupsFrom, sourcesOf, mayShare, planBits, factorsFrom}
+use Rattle.standard.specs.Factors.{longCount, shortCount, shortFrom, factorCount, longFactors, shortFactors, bandsOf}
+use Rattle.standard.specs.FactorsLaws.{few-factors, plan-bits-append, plan-length, lengths-small, shape-unshares, shape-unshared, plan-factors-length}
 use Rattle.standard.specs.declared.Setting.{Setting}
 use Rattle.standard.specs.declared.SlotRecord.{SlotRecord}
 use Rattle.standard.specs.declared.Plan.{Plan}
 use Rattle.standard.specs.declared.Shape.{Shape}
-use Rattle.standard.specs.declared.Shape.the-variants.{AllLong, AllShort}
+use Rattle.standard.specs.declared.Shape.the-variants.{AllLong, AllShort, LongThenShort}
 use Rattle.scale_factors.specs.Flat.{flatOf, flat-bands}
 use Rattle.scale_factors.specs.Groups.{Fit, filled, factorsAt, oldFor}
 
@@ -32,6 +33,7 @@ share-long : (mpeg1 intensity : Bool) (shares : List Bool) (k : Shape) (c g : �
     → factorCount mpeg1 k ≤ 22
 share-long mpeg1 intensity shares AllLong c g e = omega arith
 share-long mpeg1 intensity shares AllShort c g e = never (sym (shape-unshares mpeg1 intensity shares AllShort c refl g) ∙ e)
+share-long mpeg1 intensity shares LongThenShort c g e = never (sym (shape-unshares mpeg1 intensity shares LongThenShort c refl g) ∙ e)
 
 pub plan-fit : (g : Setting) (r : SlotRecord) {p : Plan} → p ≡ planOf g r → (at : ℕ) → at < 4294967296 → Fit p 36 at
 unfolding planOf
@@ -95,23 +97,24 @@ module _ (mpeg1 : Bool) (k : Shape) (l more : List ℕ) (e : length l ≡ factor
       (ap (take c) (drop-append-le n l more (omega arith)) ∙ take-at (drop n l) more c left)
 
 -- laid out in thirteen bands, 39 factors are the same one after the other
-pub bands-back : (fs : List ℕ) (n c from : ℕ) → length fs ≡ 36 → n + c ≤ 36 → from + c ≤ 36
-    → flatOf (bandsOf 13 (zeros from ++ take (n + c - n) (drop n fs) ++ zeros (39 - (from + (n + c - n))))) ≡ zeros from ++ take c (drop n fs)
-    ++ zeros (39 - (from + c))
-bands-back fs n c from l h k =
+pub bands-back : (fs : List ℕ) (n c from : ℕ) {a : List (List ℕ)} → length fs ≡ 36 → n + c ≤ 36 → from + c ≤ 36
+    → a ≡ bandsOf 13 (zeros from ++ take (n + c - n) (drop n fs) ++ zeros (39 - (from + (n + c - n))))
+    → flatOf a ≡ zeros from ++ take c (drop n fs) ++ zeros (39 - (from + c))
+bands-back fs n c from l h k e =
     let d : n + c - n ≡ c = omega arith in
-    (λ j. flatOf (bandsOf 13 (zeros from ++ take (d j) (drop n fs) ++ zeros (39 - (from + d j)))))
+    ap flatOf e
+    ∙ (λ j. flatOf (bandsOf 13 (zeros from ++ take (d j) (drop n fs) ++ zeros (39 - (from + d j)))))
     ∙ flat-bands (zeros from ++ take c (drop n fs) ++ zeros (39 - (from + c))) (simp (length-append, length-replicate, length-take, length-drop) (omega arith))
 
 -- what may not share does not go by granule 0
-old-for : (g : Setting) (r : SlotRecord) (old : List ℕ) (b : List Bool) (k : Shape) → k ≡ shapeOf r
-    → factorsFrom (sourcesOf (planOf g r)) (oldFor k old) b ≡ factorsFrom (sourcesOf (planOf g r)) old b
-old-for g r old b AllLong e = refl
-old-for g r old b AllShort e = shape-unshared g r (ap mayShare (sym e)) (zeros 22) old b
+old-for : (g : Setting) (r : SlotRecord) (old : List ℕ) (b : List Bool) (share : Bool) → share ≡ mayShare (shapeOf r)
+    → factorsFrom (sourcesOf (planOf g r)) (oldFor share old) b ≡ factorsFrom (sourcesOf (planOf g r)) old b
+old-for g r old b true e = refl
+old-for g r old b false e = shape-unshared g r (sym e) (zeros 22) old b
 
 -- a plan's factors written over zeros are the factors, and then zeros
-module _ (g : Setting) (r : SlotRecord) (old s : List ℕ) (at : ℕ) (p : Plan) (fs : List ℕ) (k : Shape) (shape : k ≡ shapeOf r)
-    (own : p ≡ planOf g r) (read : fs ≡ filled (zeros 36) 0 (sourcesOf p) (oldFor k old) s at) where
+module _ (g : Setting) (r : SlotRecord) (old s : List ℕ) (at : ℕ) (p : Plan) (fs : List ℕ) (k : Shape) (share : Bool)
+    (shape : k ≡ shapeOf r) (may : share ≡ mayShare k) (own : p ≡ planOf g r) (read : fs ≡ filled (zeros 36) 0 (sourcesOf p) (oldFor share old) s at) where
   count : length (factorsAt g r old s at) ≡ factorCount (g .mpeg1) (shapeOf r)
   count = plan-factors-length g r old (bits s at (planBits (sourcesOf (planOf g r))))
 
@@ -122,22 +125,24 @@ module _ (g : Setting) (r : SlotRecord) (old s : List ℕ) (at : ℕ) (p : Plan)
   unfolding filled more
   factors-first =
       read
-      ∙ ap (λ (q : Plan). filled (zeros 36) 0 (sourcesOf q) (oldFor k old) s at) own
-      ∙ ap (sets (zeros 36) 0) (old-for g r old (bits s at (planBits (sourcesOf (planOf g r)))) k shape)
+      ∙ ap (λ (q : Plan). filled (zeros 36) 0 (sourcesOf q) (oldFor share old) s at) own
+      ∙ ap (sets (zeros 36) 0) (old-for g r old (bits s at (planBits (sourcesOf (planOf g r)))) share (may ∙ ap mayShare shape))
       ∙ sets-eq (factorsAt g r old s at) (zeros 36) 0 (omega (arith, count, few-factors (g .mpeg1) (shapeOf r)))
 
   module _ (n : ℕ) (long : n ≡ longCount (g .mpeg1) k) where
     long-many : n ≡ longCount (g .mpeg1) (shapeOf r)
     long-many = long ∙ ap (longCount (g .mpeg1)) shape
 
-    pub long-read : take n fs ++ zeros (22 - n) ≡ longFactors (g .mpeg1) (shapeOf r) (factorsAt g r old s at)
-    long-read =
-        (λ j. take (long-many j) (factors-first j) ++ zeros (22 - long-many j))
+    pub long-read : {l : List ℕ} → l ≡ take n fs ++ zeros (22 - n) → l ≡ longFactors (g .mpeg1) (shapeOf r) (factorsAt g r old s at)
+    long-read e =
+        e
+        ∙ (λ j. take (long-many j) (factors-first j) ++ zeros (22 - long-many j))
         ∙ long-taken (g .mpeg1) (shapeOf r) (factorsAt g r old s at) more count
 
-    pub short-read : zeros (shortFrom k) ++ take (shortCount k) (drop n fs) ++ zeros (39 - (shortFrom k + shortCount k))
-        ≡ shortFactors (g .mpeg1) (shapeOf r) (factorsAt g r old s at)
-    short-read =
-        (λ j. zeros (shortFrom (shape j)) ++ take (shortCount (shape j)) (drop (long-many j) (factors-first j))
+    pub short-read : {l : List ℕ} → l ≡ zeros (shortFrom k) ++ take (shortCount k) (drop n fs) ++ zeros (39 - (shortFrom k + shortCount k))
+        → l ≡ shortFactors (g .mpeg1) (shapeOf r) (factorsAt g r old s at)
+    short-read e =
+        e
+        ∙ (λ j. zeros (shortFrom (shape j)) ++ take (shortCount (shape j)) (drop (long-many j) (factors-first j))
         ++ zeros (39 - (shortFrom (shape j) + shortCount (shape j))))
         ∙ short-taken (g .mpeg1) (shapeOf r) (factorsAt g r old s at) more count

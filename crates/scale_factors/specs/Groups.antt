@@ -10,8 +10,6 @@ use Rattle.standard.specs.Bits.{bits}
 use Rattle.standard.specs.Factors.{Source, shared, coded, planOf, sourcesOf, planBits, factorsFrom}
 use Rattle.standard.specs.declared.Setting.{Setting}
 use Rattle.standard.specs.declared.SlotRecord.{SlotRecord}
-use Rattle.standard.specs.declared.Shape.{Shape}
-use Rattle.standard.specs.declared.Shape.the-variants.{AllLong, AllShort}
 use Rattle.standard.specs.declared.Plan.{Plan}
 
 -- the factors of a slot whose bits start at a place of s, granule 0's being `old`
@@ -19,9 +17,9 @@ abbrev pub factorsAt : Setting → SlotRecord → List ℕ → List ℕ → ℕ 
 factorsAt g r old s at = factorsFrom (sourcesOf (planOf g r)) old (bits s at (planBits (sourcesOf (planOf g r))))
 
 -- granule 0's factors, for a slot that may share them
-abbrev pub oldFor : Shape → List ℕ → List ℕ
-oldFor AllLong old = old
-oldFor AllShort old = replicate 22 0
+abbrev pub oldFor : Bool → List ℕ → List ℕ
+oldFor true old = old
+oldFor false old = replicate 22 0
 
 -- where each factor of a group comes from
 abbrev pub sourceOf : Bool → ℕ → Source

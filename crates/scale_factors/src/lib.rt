@@ -2,6 +2,7 @@
 pub mod plan;
 
 use bits::field;
+use derived::may_share;
 use derived::shape_of;
 use lent_bytes::put;
 use plan::group_bits;
@@ -18,7 +19,8 @@ ghost use Prim.Native.Nat.{_+_, _-_, _<_, _≤_};
 ghost use lib.ListN.{length, getD, take, drop, replicate};
 ghost use Rattle.standard.specs.Bits.{bits};
 ghost use Rattle.standard.specs.Record.{shapeOf};
-ghost use Rattle.standard.specs.Factors.{planOf, sourcesOf, group, planBits, longCount, shortCount, shortFrom, longFactors, shortFactors, bandsOf, widthOf, factorBy};
+ghost use Rattle.standard.specs.Factors.{planOf, sourcesOf, group, planBits, widthOf, factorBy};
+ghost use Rattle.standard.specs.Factors.{longCount, shortCount, shortFrom, longFactors, shortFactors, bandsOf};
 ghost use Rattle.scale_factors.specs.Flat.{flatOf};
 ghost use Rattle.scale_factors.specs.Groups.{factorsAt, sourceOf, filled, Group, Fit};
 
@@ -133,7 +135,18 @@ fn long_count(mpeg1: bool, shape: Shape) -> usize
     match shape {
         Shape::AllLong => 21,
         Shape::AllShort => 0,
+        Shape::LongThenShort => mixed_long(mpeg1),
     }
+}
+
+// How many are long in a mixed block: MPEG-1 has more bands before number 36.
+fn mixed_long(mpeg1: bool) -> usize
+    ensures { λ n. ⌜ n ≡ longCount mpeg1 Shape.LongThenShort ⌝ }
+{
+    if mpeg1 {
+        return 8;
+    }
+    6
 }
 
 // How many are short.
@@ -143,16 +156,18 @@ fn short_count(shape: Shape) -> usize
     match shape {
         Shape::AllLong => 0,
         Shape::AllShort => 36,
+        Shape::LongThenShort => 27,
     }
 }
 
-// The place of the first short one among the 39.
+// The place of the first short one among the 39: band 3 in a mixed block.
 fn short_from(shape: Shape) -> usize
     ensures { λ n. ⌜ n ≡ shortFrom shape ⌝ }
 {
     match shape {
         Shape::AllLong => 0,
         Shape::AllShort => 0,
+        Shape::LongThenShort => 9,
     }
 }
 
@@ -176,19 +191,20 @@ fn short_places(fs: [u8; 36], n: usize, end: usize, from: usize) -> [[u8; 3]; 13
     bands(short)
 }
 
-// The short factors at their places. Long bands have none: the thirteen bands are not gone through for them.
+// The short factors at their places. Where there are none the thirteen bands are not gone through.
 fn short_factors(shape: Shape, fs: [u8; 36], n: usize) -> [u8; 39]
     requires { ⌜ n + shortCount shape ≤ 36 ⌝ }
     ensures { λ r. ⌜ r ≡ replicate (shortFrom shape) 0 ++ take (shortCount shape) (drop n fs) ++ replicate (39 - (shortFrom shape + shortCount shape)) 0 ⌝ }
 {
-    match shape {
-        Shape::AllLong => [0u8; 39],
-        Shape::AllShort => flat(short_places(fs, n, n + short_count(shape), short_from(shape))),
+    let count = short_count(shape);
+    if count == 0 {
+        return [0u8; 39];
     }
+    flat(short_places(fs, n, n + count, short_from(shape)))
 }
 
-// The factors of a slot that starts at a bit place, `old` being the long ones of its channel in granule 0. Short bands share nothing and
-// are read without these; read apart, both leave the loops over a slot's numbers faster (docs/PERFORMANCE.md).
+// The factors of a slot that starts at a bit place, `old` being the long ones of its channel in granule 0. What may not share is
+// read without these; read apart, both leave the loops over a slot's numbers faster (docs/PERFORMANCE.md).
 pub fn read_scale_factors(g: Setting, r: SlotRecord, old: [u8; 22], s: &[u8], at: u32) -> Factors
     ensures { λ f. ⌜ (f .bits ≡ planBits (sourcesOf (planOf g r)))
         × (f .long ≡ longFactors (g .mpeg1) (shapeOf r) (factorsAt g r old (now (s .entry)) at))
@@ -196,10 +212,12 @@ pub fn read_scale_factors(g: Setting, r: SlotRecord, old: [u8; 22], s: &[u8], at
 {
     let plan = plan_of(g, r);
     let block = r.block_type;
-    let shape = shape_of(block);
-    let fs = match shape {
-        Shape::AllLong => read_plan(plan, old, s, at as usize),
-        Shape::AllShort => read_plan(plan, [0u8; 22], s, at as usize),
+    let shape = shape_of(block, r.mixed_block_flag);
+    let share = may_share(shape);
+    let fs = if share {
+        read_plan(plan, old, s, at as usize)
+    } else {
+        read_plan(plan, [0u8; 22], s, at as usize)
     };
     let n = long_count(g.mpeg1, shape);
     let long = long_places(fs, n);

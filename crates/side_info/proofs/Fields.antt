@@ -1,6 +1,6 @@
 -- The fields of a record, cut out of the numbers that its parts are read as, and the way through its tests.
 use mathlib.Core.Path.{_≡_, refl, sym, ap, _∙_}
-use mathlib.Core.Bool.{Bool, true, false, not}
+use mathlib.Core.Bool.{Bool, true, false, not, _&&_}
 use mathlib.Core.List.{List}
 use Prim.Native.Nat.{ℕ, _+_, _-_, _/_, _%_, _^_, _≤_, _<_}
 use native.Mathlib.Nat.{div-one}
@@ -12,7 +12,9 @@ use Rattle.standard.specs.Told.{told, refused}
 use Rattle.standard.specs.ToldLaws.{picked, passed, never, no-refusal, told-is}
 use Rattle.standard.specs.Bits.{bitAt, bits, field, flag, fieldAt}
 use Rattle.standard.specs.BitsLaws.{field-bits, flag-bits, fieldAt-cut}
-use Rattle.standard.specs.Record.{gainOf, compressWidth, recordWidth, scaleAt, count1At, preflagOf, blockOf, longOf, switchedOf, recordIn, recordOf}
+use Rattle.standard.specs.Record.{gainOf, compressWidth, recordWidth, scaleAt, count1At, preflagOf, blockOf, shapeBy, isMixed, longOf, switchedOf, recordIn, recordOf}
+use Rattle.standard.specs.declared.BlockType.{BlockType}
+use Rattle.standard.specs.declared.Shape.{Shape}
 use Rattle.standard.specs.declared.SlotRecord.{SlotRecord}
 use Rattle.standard.specs.declared.Refusal.the-variants.{TooManyPairs, ForbiddenBlock, MixedBlock}
 use Rattle.record_check.proofs.Widths.{width}
@@ -93,52 +95,70 @@ module _ {mpeg1 : Bool} {s : List ℕ} {at : ℕ} {k : Common} {w : ℕ} (e : Pa
   few : k .«big_values» ≤ 288 → ltb 288 (field b 12 9) ≡ false
   few h = le-ltb 288 (field b 12 9) (rw pairs-are at h)
 
-  set : (j m : ℕ) → j + 1 + m ≡ 23 → w / 2 ^ m % 2 ≡ 1 → flag b (29 + j + c) ≡ true
+  -- a flag of the window
+  flag-is : (j m : ℕ) → j + 1 + m ≡ 23 → eqb (w / 2 ^ m % 2) 1 ≡ flag b (29 + j + c)
   unfolding flag
-  set j m p h = eq-eqb (field b (29 + j + c) 1) 1 (sym (window-cut j 1 m p) ∙ h)
+  flag-is j m p = ap (λ (n : ℕ). eqb n 1) (window-cut j 1 m p)
 
-  unset : (j m : ℕ) → j + 1 + m ≡ 23 → (w / 2 ^ m % 2 ≡ 1 → ⊥) → flag b (29 + j + c) ≡ false
-  unfolding flag
-  unset j m p h = ne-eqb (field b (29 + j + c) 1) 1 (λ q. h (window-cut j 1 m p ∙ q))
+  abbrev switched : Bool
+  switched = flag b (29 + c)
+
+  is-switched : w / 2 ^ 22 % 2 ≡ 1 → not switched ≡ false
+  is-switched h = ap not (sym (flag-is 0 22 refl) ∙ eq-eqb (w / 2 ^ 22 % 2) 1 h)
+
+  is-not : (w / 2 ^ 22 % 2 ≡ 1 → ⊥) → not switched ≡ true
+  is-not h = ap not (sym (flag-is 0 22 refl) ∙ ne-eqb (w / 2 ^ 22 % 2) 1 h)
+
+  type-is : blockOf (w / 2 ^ 20 % 4) ≡ blockOf (field b (30 + c) 2)
+  type-is = ap blockOf (window-cut 1 2 20 refl)
+
+  -- whether it is a mixed short block, and the rate 8 kHz
+  mixed-is : (slow : Bool) {t : BlockType} {k : Shape} {x : Bool} → t ≡ blockOf (w / 2 ^ 20 % 4) → k ≡ shapeBy t (eqb (w / 2 ^ 19 % 2) 1) → x ≡ isMixed k
+      → slow && x ≡ slow && isMixed (shapeBy (blockOf (field b (30 + c) 2)) (flag b (32 + c)))
+  mixed-is slow p q r = ap (λ (y : Bool). slow && y) (r ∙ ap isMixed (q ∙ (λ j. shapeBy ((p ∙ type-is) j) (flag-is 3 19 refl j))))
 
   other : (w / 2 ^ 20 % 4 ≡ 0 → ⊥) → eqb (field b (30 + c) 2) 0 ≡ false
   other h = ne-eqb (field b (30 + c) 2) 0 (λ q. h (window-cut 1 2 20 refl ∙ q))
 
-  pub says-many : 288 < k .«big_values» → recordOf mpeg1 (recordBits mpeg1 s at) ≡ refused TooManyPairs
+  pub says-many : (slow : Bool) → 288 < k .«big_values» → recordOf mpeg1 slow (recordBits mpeg1 s at) ≡ refused TooManyPairs
   unfolding recordOf recordIn
-  says-many h = picked _ (lt-ltb 288 (field b 12 9) (rw pairs-are at h))
+  says-many slow h = picked _ (lt-ltb 288 (field b 12 9) (rw pairs-are at h))
 
-  module _ (h : k .«big_values» ≤ 288) where
-    pub says-long : (w / 2 ^ 22 % 2 ≡ 1 → ⊥) → recordOf mpeg1 (recordBits mpeg1 s at) ≡ told (longOf mpeg1 (compressWidth mpeg1) (recordBits mpeg1 s at))
+  module _ (slow : Bool) (h : k .«big_values» ≤ 288) where
+    pub says-long : (w / 2 ^ 22 % 2 ≡ 1 → ⊥)
+        → recordOf mpeg1 slow (recordBits mpeg1 s at) ≡ told (longOf mpeg1 (compressWidth mpeg1) (recordBits mpeg1 s at))
     unfolding recordOf recordIn
-    says-long i = passed _ (few h) ∙ picked _ (ap not (unset 0 22 refl i))
+    says-long i = passed _ (few h) ∙ picked _ (is-not i)
 
     module _ (i : w / 2 ^ 22 % 2 ≡ 1) where
-      pub says-forbidden : w / 2 ^ 20 % 4 ≡ 0 → recordOf mpeg1 (recordBits mpeg1 s at) ≡ refused ForbiddenBlock
+      pub says-forbidden : w / 2 ^ 20 % 4 ≡ 0 → recordOf mpeg1 slow (recordBits mpeg1 s at) ≡ refused ForbiddenBlock
       unfolding recordOf recordIn
-      says-forbidden l = passed _ (few h) ∙ passed _ (ap not (set 0 22 refl i)) ∙ picked _ (eq-eqb (field b (30 + c) 2) 0 (sym (window-cut 1 2 20 refl) ∙ l))
+      says-forbidden l = passed _ (few h) ∙ passed _ (is-switched i) ∙ picked _ (eq-eqb (field b (30 + c) 2) 0 (sym (window-cut 1 2 20 refl) ∙ l))
 
-      pub says-mixed : (w / 2 ^ 20 % 4 ≡ 0 → ⊥) → w / 2 ^ 19 % 2 ≡ 1 → recordOf mpeg1 (recordBits mpeg1 s at) ≡ refused MixedBlock
-      unfolding recordOf recordIn
-      says-mixed l m = passed _ (few h) ∙ passed _ (ap not (set 0 22 refl i)) ∙ passed _ (other l) ∙ picked _ (set 3 19 refl m)
+      module _ (l : w / 2 ^ 20 % 4 ≡ 0 → ⊥) {t : BlockType} {z : Shape} {x : Bool} (p : t ≡ blockOf (w / 2 ^ 20 % 4))
+          (q : z ≡ shapeBy t (eqb (w / 2 ^ 19 % 2) 1)) (r : x ≡ isMixed z) where
+        pub says-mixed : slow && x ≡ true → recordOf mpeg1 slow (recordBits mpeg1 s at) ≡ refused MixedBlock
+        unfolding recordOf recordIn
+        says-mixed m = passed _ (few h) ∙ passed _ (is-switched i) ∙ passed _ (other l) ∙ picked _ (sym (mixed-is slow p q r) ∙ m)
 
-      pub says-switched : (w / 2 ^ 20 % 4 ≡ 0 → ⊥) → (w / 2 ^ 19 % 2 ≡ 1 → ⊥)
-          → recordOf mpeg1 (recordBits mpeg1 s at) ≡ told (switchedOf mpeg1 (compressWidth mpeg1) (blockOf (w / 2 ^ 20 % 4)) (recordBits mpeg1 s at))
-      unfolding recordOf recordIn
-      says-switched l m =
-          passed _ (few h) ∙ passed _ (ap not (set 0 22 refl i)) ∙ passed _ (other l) ∙ passed _ (unset 3 19 refl m)
-          ∙ ap (λ (t : ℕ). told (switchedOf mpeg1 c (blockOf t) b)) (sym (window-cut 1 2 20 refl))
+        pub says-switched : slow && x ≡ false
+            → recordOf mpeg1 slow (recordBits mpeg1 s at)
+            ≡ told (switchedOf mpeg1 (compressWidth mpeg1) (blockOf (w / 2 ^ 20 % 4)) (eqb (w / 2 ^ 19 % 2) 1) (recordBits mpeg1 s at))
+        unfolding recordOf recordIn
+        says-switched m =
+            passed _ (few h) ∙ passed _ (is-switched i) ∙ passed _ (other l) ∙ passed _ (sym (mixed-is slow p q r) ∙ m)
+            ∙ (λ j. told (switchedOf mpeg1 c (sym type-is j) (sym (flag-is 3 19 refl) j) b))
 
   -- ---- the record, where it has no fault
-  pub long-is : {a : SlotRecord} → (w / 2 ^ 22 % 2 ≡ 1 → ⊥) → recordOf mpeg1 (recordBits mpeg1 s at) ≡ told a
+  pub long-is : (slow : Bool) {a : SlotRecord} → (w / 2 ^ 22 % 2 ≡ 1 → ⊥) → recordOf mpeg1 slow (recordBits mpeg1 s at) ≡ told a
       → longOf mpeg1 (compressWidth mpeg1) (recordBits mpeg1 s at) ≡ a
   unfolding recordOf recordIn
-  long-is {a} i f = told-is (sym (picked _ (ap not (unset 0 22 refl i))) ∙ no-refusal _ _ _ a f .1)
+  long-is slow {a} i f = told-is (sym (picked _ (is-not i)) ∙ no-refusal _ _ _ a f .1)
 
-  pub switched-is : {a : SlotRecord} → w / 2 ^ 22 % 2 ≡ 1 → recordOf mpeg1 (recordBits mpeg1 s at) ≡ told a
-      → switchedOf mpeg1 (compressWidth mpeg1) (blockOf (w / 2 ^ 20 % 4)) (recordBits mpeg1 s at) ≡ a
+  pub switched-is : (slow : Bool) {a : SlotRecord} → w / 2 ^ 22 % 2 ≡ 1 → recordOf mpeg1 slow (recordBits mpeg1 s at) ≡ told a
+      → switchedOf mpeg1 (compressWidth mpeg1) (blockOf (w / 2 ^ 20 % 4)) (eqb (w / 2 ^ 19 % 2) 1) (recordBits mpeg1 s at) ≡ a
   unfolding recordOf recordIn
-  switched-is {a} i f =
-      let g = sym (passed _ (ap not (set 0 22 refl i))) ∙ no-refusal _ _ _ a f .1 in
+  switched-is slow {a} i f =
+      let g = sym (passed _ (is-switched i)) ∙ no-refusal _ _ _ a f .1 in
       let h = no-refusal _ _ _ a (no-refusal _ _ _ a g .1) .1 in
-      ap (λ (t : ℕ). switchedOf mpeg1 c (blockOf t) b) (window-cut 1 2 20 refl) ∙ told-is h
+      (λ j. switchedOf mpeg1 c (type-is j) (flag-is 3 19 refl j) b) ∙ told-is h

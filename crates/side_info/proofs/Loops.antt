@@ -30,20 +30,21 @@ stored {A} n i d x done l h e =
     ∙ sym (append-assoc done (x ∷ []) (replicate (n - (i + 1)) d))
 
 -- ---- records
-module _ (mpeg1 : Bool) (s : List ℕ) where
+module _ (mpeg1 slow : Bool) (s : List ℕ) where
   -- the records of the k slots from a place on
   abbrev rest : ℕ → ℕ → Told (List SlotRecord)
-  rest k at = recordsOf mpeg1 k (bits s at (k * recordWidth mpeg1))
+  rest k at = recordsOf mpeg1 slow k (bits s at (k * recordWidth mpeg1))
 
   rest-step : (k at : ℕ)
-      → recordsOf mpeg1 (suc k) (bits s at (suc k * recordWidth mpeg1))
-      ≡ thenRecords (recordOf mpeg1 (recordBits mpeg1 s at)) (recordsOf mpeg1 k (bits s (at + recordWidth mpeg1) (k * recordWidth mpeg1)))
+      → recordsOf mpeg1 slow (suc k) (bits s at (suc k * recordWidth mpeg1))
+      ≡ thenRecords (recordOf mpeg1 slow (recordBits mpeg1 s at)) (recordsOf mpeg1 slow k (bits s (at + recordWidth mpeg1) (k * recordWidth mpeg1)))
   unfolding recordsOf
   rest-step k at =
       let w = recordWidth mpeg1 in
       let h : w ≤ suc k * w = omega (arith, suc-mul k w) in
       let q : suc k * w - w ≡ k * w = omega (arith, suc-mul k w) in
-      λ j. thenRecords (recordOf mpeg1 (take-bits w s at (suc k * w) h j)) (recordsOf mpeg1 k ((drop-bits w s at (suc k * w) ∙ ap (bits s (at + w)) q) j))
+      λ j. thenRecords (recordOf mpeg1 slow (take-bits w s at (suc k * w) h j))
+      (recordsOf mpeg1 slow k ((drop-bits w s at (suc k * w) ∙ ap (bits s (at + w)) q) j))
 
 -- what was read before
 after : List SlotRecord → Told (List SlotRecord) → Told (List SlotRecord)
@@ -60,43 +61,44 @@ unfolding after thenRecords
 after-one done r (refused k) = refl
 after-one done r (told rs) = ap told (sym (append-assoc done (r ∷ []) rs))
 
-pub record RecordsLoop (mpeg1 : Bool) (n : ℕ) (s : List ℕ) (start : ℕ) (slots : List SlotRecord) (at i : ℕ) : Type 0 where
+pub record RecordsLoop (mpeg1 slow : Bool) (n : ℕ) (s : List ℕ) (start : ℕ) (slots : List SlotRecord) (at i : ℕ) : Type 0 where
   pub done : List SlotRecord
   pub some : i ≤ n
   pub count : length done ≡ i
   pub place : at ≤ start + 63 * i
   pub held : slots ≡ done ++ replicate (4 - i) absent
-  same : rest mpeg1 s n start ≡ after done (rest mpeg1 s (n - i) at)
+  same : rest mpeg1 slow s n start ≡ after done (rest mpeg1 slow s (n - i) at)
 
-pub records-begin : (mpeg1 : Bool) (n : ℕ) (s : List ℕ) (start : ℕ) → RecordsLoop mpeg1 n s start (replicate 4 absent) start 0
-records-begin mpeg1 n s start = record {
+pub records-begin : (mpeg1 slow : Bool) (n : ℕ) (s : List ℕ) (start : ℕ) → RecordsLoop mpeg1 slow n s start (replicate 4 absent) start 0
+records-begin mpeg1 slow n s start = record {
   done = [];
   some = omega arith;
   count = refl;
   place = omega arith;
   held = refl;
-  same = after-none (rest mpeg1 s n start) ∙ ap (λ (k : ℕ). after [] (rest mpeg1 s k start)) (sym (sub-zero n));
+  same = after-none (rest mpeg1 slow s n start) ∙ ap (λ (k : ℕ). after [] (rest mpeg1 slow s k start)) (sym (sub-zero n));
 }
 
-module _ {mpeg1 : Bool} {n : ℕ} {s : List ℕ} {start : ℕ} {slots : List SlotRecord} {at i : ℕ} (l : RecordsLoop mpeg1 n s start slots at i) where
+module _ {mpeg1 slow : Bool} {n : ℕ} {s : List ℕ} {start : ℕ} {slots : List SlotRecord} {at i : ℕ} (l : RecordsLoop mpeg1 slow n s start slots at i) where
   one-more : i < n
-      → rest mpeg1 s n start ≡ after (l .done) (thenRecords (recordOf mpeg1 (recordBits mpeg1 s at)) (rest mpeg1 s (n - (i + 1)) (at + recordWidth mpeg1)))
+      → rest mpeg1 slow s n start
+      ≡ after (l .done) (thenRecords (recordOf mpeg1 slow (recordBits mpeg1 s at)) (rest mpeg1 slow s (n - (i + 1)) (at + recordWidth mpeg1)))
   one-more h =
       let q : n - i ≡ suc (n - (i + 1)) = omega arith in
-      l .same ∙ ap (λ (k : ℕ). after (l .done) (rest mpeg1 s k at)) q ∙ ap (after (l .done)) (rest-step mpeg1 s (n - (i + 1)) at)
+      l .same ∙ ap (λ (k : ℕ). after (l .done) (rest mpeg1 slow s k at)) q ∙ ap (after (l .done)) (rest-step mpeg1 slow s (n - (i + 1)) at)
 
   -- a record is refused
-  pub records-stop : {v : Verdict} {x : SlotRecord} {r : Refusal} → Gives v x (recordOf mpeg1 (recordBits mpeg1 s at)) → v ≡ Refused r → i < n
-      → Gives v slots (filled n (recordsOf mpeg1 n (bits s start (n * recordWidth mpeg1))))
+  pub records-stop : {v : Verdict} {x : SlotRecord} {r : Refusal} → Gives v x (recordOf mpeg1 slow (recordBits mpeg1 s at)) → v ≡ Refused r → i < n
+      → Gives v slots (filled n (recordsOf mpeg1 slow n (bits s start (n * recordWidth mpeg1))))
   unfolding after thenRecords
   records-stop {v} {x} {r} a e h =
       gives-none e
       (ap (filled n)
-      (one-more h ∙ ap (λ (t : Told SlotRecord). after (l .done) (thenRecords t (rest mpeg1 s (n - (i + 1)) (at + recordWidth mpeg1)))) (given-none a e)))
+      (one-more h ∙ ap (λ (t : Told SlotRecord). after (l .done) (thenRecords t (rest mpeg1 slow s (n - (i + 1)) (at + recordWidth mpeg1)))) (given-none a e)))
 
   -- or read
-  pub records-turn : {v : Verdict} {x : SlotRecord} {w : ℕ} → Gives v x (recordOf mpeg1 (recordBits mpeg1 s at)) → v ≡ Accepted → w ≡ recordWidth mpeg1
-      → i < n → n ≤ 4 → RecordsLoop mpeg1 n s start (set slots i x) (at + w) (i + 1)
+  pub records-turn : {v : Verdict} {x : SlotRecord} {w : ℕ} → Gives v x (recordOf mpeg1 slow (recordBits mpeg1 s at)) → v ≡ Accepted → w ≡ recordWidth mpeg1
+      → i < n → n ≤ 4 → RecordsLoop mpeg1 slow n s start (set slots i x) (at + w) (i + 1)
   records-turn {v} {x} {w} a e f h m = record {
     done = l .done ++ x ∷ [];
     some = omega arith;
@@ -105,18 +107,18 @@ module _ {mpeg1 : Bool} {n : ℕ} {s : List ℕ} {start : ℕ} {slots : List Slo
     held = stored 4 i absent x (l .done) (l .count) (omega arith) (l .held);
     same =
         one-more h
-        ∙ ap (λ (t : Told SlotRecord). after (l .done) (thenRecords t (rest mpeg1 s (n - (i + 1)) (at + recordWidth mpeg1)))) (given-told a e)
-        ∙ after-one (l .done) x (rest mpeg1 s (n - (i + 1)) (at + recordWidth mpeg1))
-        ∙ ap (λ (k : ℕ). after (l .done ++ x ∷ []) (rest mpeg1 s (n - (i + 1)) (at + k))) (sym f);
+        ∙ ap (λ (t : Told SlotRecord). after (l .done) (thenRecords t (rest mpeg1 slow s (n - (i + 1)) (at + recordWidth mpeg1)))) (given-told a e)
+        ∙ after-one (l .done) x (rest mpeg1 slow s (n - (i + 1)) (at + recordWidth mpeg1))
+        ∙ ap (λ (k : ℕ). after (l .done ++ x ∷ []) (rest mpeg1 slow s (n - (i + 1)) (at + k))) (sym f);
   }
 
-  pub records-end : n ≤ i → Gives Accepted slots (filled n (recordsOf mpeg1 n (bits s start (n * recordWidth mpeg1))))
+  pub records-end : n ≤ i → Gives Accepted slots (filled n (recordsOf mpeg1 slow n (bits s start (n * recordWidth mpeg1))))
   unfolding after recordsOf
   records-end h =
       let q : n - i ≡ 0 = omega arith in
       let p : i ≡ n = omega (arith, l .some) in
       gives-told refl
-      (ap (filled n) (l .same ∙ ap (λ (k : ℕ). after (l .done) (rest mpeg1 s k at)) q ∙ ap told (append-nil (l .done)))
+      (ap (filled n) (l .same ∙ ap (λ (k : ℕ). after (l .done) (rest mpeg1 slow s k at)) q ∙ ap told (append-nil (l .done)))
       ∙ sym (ap told (l .held ∙ ap (λ (k : ℕ). l .done ++ replicate (4 - k) absent) p)))
 
 -- ---- sharing bits

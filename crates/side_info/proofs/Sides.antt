@@ -11,7 +11,7 @@ use Rattle.standard.specs.ToldLaws.{picked, passed, told-is}
 use Rattle.standard.specs.RefusalsLaws.{apart, one-reason}
 use Rattle.standard.specs.Bits.{bits, field, fieldAt}
 use Rattle.standard.specs.BitsLaws.{one-le, drop-bits, take-bits, field-bits}
-use Rattle.standard.specs.Header.{isHeader, isMpeg1, isTwo, headerSize, sideBytes}
+use Rattle.standard.specs.Header.{isHeader, isMpeg1, isTwo, isSlow, headerSize, sideBytes}
 use Rattle.standard.specs.Record.{recordWidth}
 use Rattle.standard.specs.SideInfo.{beginWidth, sharesAt, shareCount, slotCount, recordsOf, thenSide, absentFrom, sideIn, sideFrom, sideOf}
 use Rattle.standard.specs.declared.FrameHeader.{FrameHeader}
@@ -60,7 +60,7 @@ module _ (mpeg1 two : Bool) (b : List Bool) where
       })
 
 -- ---- where the parts stand
-module _ (mpeg1 two : Bool) (s : List ℕ) (at : ℕ) where
+module _ (mpeg1 two slow : Bool) (s : List ℕ) (at : ℕ) where
   abbrev b : List Bool
   b = bits s at (8 * sideBytes mpeg1 two)
 
@@ -73,11 +73,11 @@ module _ (mpeg1 two : Bool) (s : List ℕ) (at : ℕ) where
   abbrev m : ℕ
   m = shareCount mpeg1 two
 
-  records-there : recordsOf mpeg1 n (drop (p + m) b) ≡ recordsOf mpeg1 n (bits s (at + p + m) (n * recordWidth mpeg1))
+  records-there : recordsOf mpeg1 slow n (drop (p + m) b) ≡ recordsOf mpeg1 slow n (bits s (at + p + m) (n * recordWidth mpeg1))
   records-there =
       let q : at + (p + m) ≡ at + p + m = omega arith in
       let r : 8 * sideBytes mpeg1 two - (p + m) ≡ n * recordWidth mpeg1 = omega (arith, full mpeg1 two) in
-      ap (recordsOf mpeg1 n) (drop-bits (p + m) s at (8 * sideBytes mpeg1 two) ∙ (λ j. bits s (q j) (r j)))
+      ap (recordsOf mpeg1 slow n) (drop-bits (p + m) s at (8 * sideBytes mpeg1 two) ∙ (λ j. bits s (q j) (r j)))
 
   shares-there : take m (drop p b) ≡ bits s (at + p) m
   shares-there = ap (take m) (drop-bits p s at (8 * sideBytes mpeg1 two)) ∙ take-bits m s (at + p) (8 * sideBytes mpeg1 two - p) (omega (arith, full mpeg1 two))
@@ -89,19 +89,21 @@ module _ (mpeg1 two : Bool) (s : List ℕ) (at : ℕ) where
 
   module _ {v : Verdict} {slots : List SlotRecord} where
     given-there : {l : Layout} → l ≡ layoutOf mpeg1 two
-        → Gives v slots (filled (l .slots) (recordsOf mpeg1 (l .slots) (bits s (at + l .prefix + l .shares) (l .slots * recordWidth mpeg1))))
-        → Gives v slots (filled n (recordsOf mpeg1 n (drop (p + m) b)))
+        → Gives v slots (filled (l .slots) (recordsOf mpeg1 slow (l .slots) (bits s (at + l .prefix + l .shares) (l .slots * recordWidth mpeg1))))
+        → Gives v slots (filled n (recordsOf mpeg1 slow n (drop (p + m) b)))
     given-there e h = rw records-there (rw e at h)
 
     pub side-refused : {l : Layout} {r : Refusal} → l ≡ layoutOf mpeg1 two
-        → Gives v slots (filled (l .slots) (recordsOf mpeg1 (l .slots) (bits s (at + l .prefix + l .shares) (l .slots * recordWidth mpeg1)))) → v ≡ Refused r
-        → sideIn mpeg1 two (bits s at (8 * sideBytes mpeg1 two)) ≡ refused r
+        → Gives v slots (filled (l .slots) (recordsOf mpeg1 slow (l .slots) (bits s (at + l .prefix + l .shares) (l .slots * recordWidth mpeg1))))
+        → v ≡ Refused r
+        → sideIn mpeg1 two slow (bits s at (8 * sideBytes mpeg1 two)) ≡ refused r
     unfolding sideIn
-    side-refused e h f = side-none mpeg1 two b (recordsOf mpeg1 n (drop (p + m) b)) (given-none (given-there e h) f)
+    side-refused e h f = side-none mpeg1 two b (recordsOf mpeg1 slow n (drop (p + m) b)) (given-none (given-there e h) f)
 
     pub side-told : {l : Layout} → l ≡ layoutOf mpeg1 two
-        → Gives v slots (filled (l .slots) (recordsOf mpeg1 (l .slots) (bits s (at + l .prefix + l .shares) (l .slots * recordWidth mpeg1)))) → v ≡ Accepted
-        → sideIn mpeg1 two (bits s at (8 * sideBytes mpeg1 two))
+        → Gives v slots (filled (l .slots) (recordsOf mpeg1 slow (l .slots) (bits s (at + l .prefix + l .shares) (l .slots * recordWidth mpeg1))))
+        → v ≡ Accepted
+        → sideIn mpeg1 two slow (bits s at (8 * sideBytes mpeg1 two))
         ≡ told (record {
           «main_data_begin» = fieldAt s at (l .«main_data_begin»);
           scfsi = bits s (at + l .prefix) (l .shares)
@@ -110,7 +112,7 @@ module _ (mpeg1 two : Bool) (s : List ℕ) (at : ℕ) where
         })
     unfolding sideIn
     side-told {l} e h f =
-        side-all mpeg1 two b (recordsOf mpeg1 n (drop (p + m) b)) (given-told (given-there e h) f)
+        side-all mpeg1 two b (recordsOf mpeg1 slow n (drop (p + m) b)) (given-told (given-there e h) f)
         ∙ (λ j. told (record { «main_data_begin» = begin-there j; scfsi = shares-there j ++ replicate (8 - m) false; slots = slots }))
         ∙ ap (λ (k : Layout). told
         (record {
@@ -121,15 +123,15 @@ module _ (mpeg1 two : Bool) (s : List ℕ) (at : ℕ) where
         })) (sym e)
 
 -- ---- from the frame's bytes
-module _ (mpeg1 two : Bool) (from : ℕ) (s : List ℕ) {l : Layout} (e : l ≡ layoutOf mpeg1 two) where
+module _ (mpeg1 two slow : Bool) (from : ℕ) (s : List ℕ) {l : Layout} (e : l ≡ layoutOf mpeg1 two) where
   size-is : from + l .size ≡ from + sideBytes mpeg1 two
   size-is = ap (λ (k : Layout). from + k .size) e
 
-  pub side-short : length s < from + l .size → sideFrom mpeg1 two from s ≡ refused (AbsentBytes (absentFrom from (length s)))
+  pub side-short : length s < from + l .size → sideFrom mpeg1 two slow from s ≡ refused (AbsentBytes (absentFrom from (length s)))
   unfolding sideFrom
   side-short h = picked _ (lt-ltb (length s) (from + sideBytes mpeg1 two) (rw size-is at h))
 
-  pub side-whole : from + l .size ≤ length s → sideFrom mpeg1 two from s ≡ sideIn mpeg1 two (bits s (8 * from) (8 * sideBytes mpeg1 two))
+  pub side-whole : from + l .size ≤ length s → sideFrom mpeg1 two slow from s ≡ sideIn mpeg1 two slow (bits s (8 * from) (8 * sideBytes mpeg1 two))
   unfolding sideFrom
   side-whole h = passed _ (le-ltb (length s) (from + sideBytes mpeg1 two) (rw size-is at h))
 
@@ -143,7 +145,8 @@ module _ (h : FrameHeader) (s : List ℕ) {b : Bool} (e : b ≡ isHeader h) wher
   unfolding sideOf
   side-made-up f = passed _ (sym e ∙ f)
 
-  pub side-under : {from : ℕ} {mpeg1 two : Bool} → b ≡ true → from ≡ headerSize h → mpeg1 ≡ isMpeg1 (h .version) → two ≡ isTwo (h .channels)
-      → sideOf h s ≡ sideFrom mpeg1 two from s
+  pub side-under : {from : ℕ} {mpeg1 two slow : Bool} → b ≡ true → from ≡ headerSize h → mpeg1 ≡ isMpeg1 (h .version) → two ≡ isTwo (h .channels)
+      → slow ≡ isSlow (h .rate)
+      → sideOf h s ≡ sideFrom mpeg1 two slow from s
   unfolding sideOf
-  side-under f p q r = picked _ (sym e ∙ f) ∙ (λ j. sideFrom (sym q j) (sym r j) (sym p j) s)
+  side-under f p q r t = picked _ (sym e ∙ f) ∙ (λ j. sideFrom (sym q j) (sym r j) (sym t j) (sym p j) s)

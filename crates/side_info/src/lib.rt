@@ -3,6 +3,7 @@ use crate::side::no_side;
 use crate::side::read_after;
 use derived::header_size;
 use derived::is_mpeg1;
+use derived::is_slow;
 use derived::is_two;
 use header::is_header;
 use standard::FrameHeader;
@@ -25,8 +26,9 @@ pub fn read_side_info(h: FrameHeader, frame: &[u8]) -> SideInfoAnswer
     }
     let version = h.version;
     let channels = h.channels;
+    let rate = h.rate;
     let from = header_size(h);
     let mpeg1 = is_mpeg1(version);
     let two = is_two(channels);
-    read_after(frame, from, mpeg1, two)
+    read_after(frame, from, mpeg1, two, is_slow(rate))
 }

@@ -2,6 +2,7 @@
 // Only scalefac_compress and what comes after the window differ between the versions.
 use crate::words::word;
 use bits::bit;
+use derived::is_mixed;
 use derived::shape_of;
 use record_check::given::compress_width;
 use record_check::given::first_region;
@@ -76,6 +77,7 @@ pub(crate) fn long_record(k: Common, w: u64) -> SlotRecord
         global_gain: k.global_gain,
         scalefac_compress: k.scalefac_compress,
         block_type: BlockType::Long,
+        mixed_block_flag: false,
         subblock_gain: gains,
         table_select: tables,
         region0_count: ((w >> 3) % 16) as u8,
@@ -87,9 +89,9 @@ pub(crate) fn long_record(k: Common, w: u64) -> SlotRecord
 }
 
 // The record of a switched window, of a block type that is not 0.
-pub(crate) fn switched_record(k: Common, w: u64, block: BlockType) -> SlotRecord
+pub(crate) fn switched_record(k: Common, w: u64, block: BlockType, mixed: bool) -> SlotRecord
     ensures { λ r. ⌜ ((mpeg1 : Bool) (s : List ℕ) (at : ℕ) → PartsAt mpeg1 s at k w
-        → r ≡ switchedOf mpeg1 (compressWidth mpeg1) block (recordBits mpeg1 s at)) ⌝ }
+        → r ≡ switchedOf mpeg1 (compressWidth mpeg1) block mixed (recordBits mpeg1 s at)) ⌝ }
 {
     let gains = [
         ((w >> 6) % 8) as u8 as f32,
@@ -97,7 +99,7 @@ pub(crate) fn switched_record(k: Common, w: u64, block: BlockType) -> SlotRecord
         (w % 8) as u8 as f32,
     ];
     let tables = [((w >> 14) % 32) as u8, ((w >> 9) % 32) as u8, 0];
-    let shape = shape_of(block);
+    let shape = shape_of(block, mixed);
     let region0 = first_region(shape);
     let region1 = second_region(shape);
     SlotRecord {
@@ -106,6 +108,7 @@ pub(crate) fn switched_record(k: Common, w: u64, block: BlockType) -> SlotRecord
         global_gain: k.global_gain,
         scalefac_compress: k.scalefac_compress,
         block_type: block,
+        mixed_block_flag: mixed,
         subblock_gain: gains,
         table_select: tables,
         region0_count: region0,
@@ -128,6 +131,7 @@ pub(crate) fn absent_record() -> SlotRecord
         global_gain: 0,
         scalefac_compress: 0,
         block_type: BlockType::Long,
+        mixed_block_flag: false,
         subblock_gain: gains,
         table_select: tables,
         region0_count: 0,
@@ -139,9 +143,9 @@ pub(crate) fn absent_record() -> SlotRecord
 }
 
 // The first fault of a record, if it has one.
-pub(crate) fn verdict_of(pairs: u16, w: u64) -> Verdict
+pub(crate) fn verdict_of(pairs: u16, w: u64, slow: bool) -> Verdict
     ensures { λ r. ⌜ ((mpeg1 : Bool) (s : List ℕ) (at : ℕ) (k : Common) → PartsAt mpeg1 s at k w → pairs ≡ k .«big_values»
-        → r ≡ verdictOf (recordOf mpeg1 (recordBits mpeg1 s at))) ⌝ }
+        → r ≡ verdictOf (recordOf mpeg1 slow (recordBits mpeg1 s at))) ⌝ }
 {
     if MOST_BIG_VALUES < pairs {
         return Verdict::Refused(Refusal::TooManyPairs);
@@ -154,8 +158,9 @@ pub(crate) fn verdict_of(pairs: u16, w: u64) -> Verdict
     if t == 0 {
         return Verdict::Refused(Refusal::ForbiddenBlock);
     }
-    let mixed = (w >> 19) % 2;
-    if mixed == 1 {
+    let block = block_of(t);
+    let shape = shape_of(block, (w >> 19) % 2 == 1);
+    if slow & is_mixed(shape) {
         return Verdict::Refused(Refusal::MixedBlock);
     }
     Verdict::Accepted
@@ -163,15 +168,15 @@ pub(crate) fn verdict_of(pairs: u16, w: u64) -> Verdict
 
 // The record, where it has no fault.
 pub(crate) fn slot_of(k: Common, w: u64) -> SlotRecord
-    ensures { λ r. ⌜ ((mpeg1 : Bool) (s : List ℕ) (at : ℕ) (a : SlotRecord) → PartsAt mpeg1 s at k w
-        → recordOf mpeg1 (recordBits mpeg1 s at) ≡ told a → r ≡ a) ⌝ }
+    ensures { λ r. ⌜ ((mpeg1 slow : Bool) (s : List ℕ) (at : ℕ) (a : SlotRecord) → PartsAt mpeg1 s at k w
+        → recordOf mpeg1 slow (recordBits mpeg1 s at) ≡ told a → r ≡ a) ⌝ }
 {
     let switched = (w >> 22) % 2;
     if switched != 1 {
         return long_record(k, w);
     }
     let block = block_of((w >> 20) % 4);
-    switched_record(k, w, block)
+    switched_record(k, w, block, (w >> 19) % 2 == 1)
 }
 
 // Read in MPEG-1 only; else it goes by scalefac_compress.
@@ -210,14 +215,14 @@ pub(crate) fn read_common(s: &[u8], at: usize, mpeg1: bool) -> Common
 }
 
 // The record whose bits start at a place.
-pub(crate) fn read_record(s: &[u8], at: usize, mpeg1: bool) -> RecordAnswer
+pub(crate) fn read_record(s: &[u8], at: usize, mpeg1: bool, slow: bool) -> RecordAnswer
     requires { ⌜ at ≤ 1024 ⌝ }
-    ensures { λ r. ⌜ Gives (r .verdict) (r .slot) (recordOf mpeg1 (recordBits mpeg1 (now (s .entry)) at)) ⌝ }
+    ensures { λ r. ⌜ Gives (r .verdict) (r .slot) (recordOf mpeg1 slow (recordBits mpeg1 (now (s .entry)) at)) ⌝ }
 {
     let k = read_common(s, at, mpeg1);
     let c = compress_width(mpeg1);
     let w = word(s, at + 29 + c, 23);
-    let verdict = verdict_of(k.big_values, w);
+    let verdict = verdict_of(k.big_values, w, slow);
     let slot = slot_of(k, w);
     RecordAnswer { verdict, slot }
 }

@@ -53,12 +53,12 @@ pub(crate) fn read_shares(s: &[u8], at: usize, n: usize) -> [bool; 8]
 }
 
 // The side information whose bits start at a place.
-pub(crate) fn read_bits(s: &[u8], at: usize, mpeg1: bool, two: bool) -> SideInfoAnswer
+pub(crate) fn read_bits(s: &[u8], at: usize, mpeg1: bool, two: bool, slow: bool) -> SideInfoAnswer
     requires { ⌜ at ≤ 64 ⌝ }
-    ensures { λ r. ⌜ Answers noSide (r .verdict) (r .info) (sideIn mpeg1 two (bits (now (s .entry)) at (8 * sideBytes mpeg1 two))) ⌝ }
+    ensures { λ r. ⌜ Answers noSide (r .verdict) (r .info) (sideIn mpeg1 two slow (bits (now (s .entry)) at (8 * sideBytes mpeg1 two))) ⌝ }
 {
     let l = layout_of(mpeg1, two);
-    let x = read_records(s, at + l.prefix + l.shares, l.slots, mpeg1);
+    let x = read_records(s, at + l.prefix + l.shares, l.slots, mpeg1, slow);
     let v = x.verdict;
     match v {
         Verdict::Refused(why) => no_side(why),
@@ -88,14 +88,20 @@ fn absent_from(from: usize, n: usize) -> u16
 }
 
 // The side information after a header of so many bytes.
-pub(crate) fn read_after(frame: &[u8], from: usize, mpeg1: bool, two: bool) -> SideInfoAnswer
+pub(crate) fn read_after(
+    frame: &[u8],
+    from: usize,
+    mpeg1: bool,
+    two: bool,
+    slow: bool,
+) -> SideInfoAnswer
     requires { ⌜ from ≤ 8 ⌝ }
-    ensures { λ r. ⌜ Answers noSide (r .verdict) (r .info) (sideFrom mpeg1 two from (now (frame .entry))) ⌝ }
+    ensures { λ r. ⌜ Answers noSide (r .verdict) (r .info) (sideFrom mpeg1 two slow from (now (frame .entry))) ⌝ }
 {
     let l = layout_of(mpeg1, two);
     if frame.len() < from + l.size {
         let offset = absent_from(from, frame.len());
         return no_side(Refusal::AbsentBytes { offset });
     }
-    read_bits(frame, 8 * from, mpeg1, two)
+    read_bits(frame, 8 * from, mpeg1, two, slow)
 }

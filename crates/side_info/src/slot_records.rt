@@ -17,9 +17,15 @@ pub(crate) struct RecordsAnswer {
 }
 
 // The first record that is refused decides.
-pub(crate) fn read_records(s: &[u8], start: usize, n: usize, mpeg1: bool) -> RecordsAnswer
+pub(crate) fn read_records(
+    s: &[u8],
+    start: usize,
+    n: usize,
+    mpeg1: bool,
+    slow: bool,
+) -> RecordsAnswer
     requires { ⌜ (start ≤ 128) × (n ≤ 4) ⌝ }
-    ensures { λ r. ⌜ Gives (r .verdict) (r .slots) (filled n (recordsOf mpeg1 n (bits (now (s .entry)) start (n * recordWidth mpeg1)))) ⌝ }
+    ensures { λ r. ⌜ Gives (r .verdict) (r .slots) (filled n (recordsOf mpeg1 slow n (bits (now (s .entry)) start (n * recordWidth mpeg1)))) ⌝ }
 {
     let w = record_width(mpeg1);
     let a = absent_record();
@@ -27,7 +33,7 @@ pub(crate) fn read_records(s: &[u8], start: usize, n: usize, mpeg1: bool) -> Rec
     let mut at = start;
     let mut i: usize = 0;
     while i < n {
-        let x = read_record(s, at, mpeg1);
+        let x = read_record(s, at, mpeg1, slow);
         let verdict = x.verdict;
         let Verdict::Accepted = verdict else {
             return RecordsAnswer { verdict, slots };

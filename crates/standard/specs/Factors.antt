@@ -12,7 +12,7 @@ use Rattle.standard.specs.declared.SlotRecord.{SlotRecord}
 use Rattle.standard.specs.declared.Setting.{Setting}
 use Rattle.standard.specs.declared.Plan.{Plan}
 use Rattle.standard.specs.declared.Shape.{Shape}
-use Rattle.standard.specs.declared.Shape.the-variants.{AllLong, AllShort}
+use Rattle.standard.specs.declared.Shape.the-variants.{AllLong, AllShort, LongThenShort}
 
 -- a factor is granule 0's (scfsi), or has so many bits of the slot
 pub data Source : Type 0 where
@@ -33,21 +33,24 @@ factorBy (coded w) old b = value (take w b)
 abbrev planned : List ℕ → List ℕ → List Bool → Plan
 planned ns ws xs = record { counts = ns; lengths = ws; shares = xs }
 
--- MPEG-1: scfsi_band 0 to 3 are the long factors from 0, 6, 11 and 16 on; short bands 0 to 5 have the first length, 6 to 11 the second.
+-- MPEG-1: scfsi_band 0 to 3 are the long factors from 0, 6, 11 and 16 on; short bands 0 to 5 have the first length, 6 to 11 the second; a mixed block
+-- has eight long factors and bands 3 to 5 of the first length, and 6 to 11 of the second.
 -- `intensity` says whether this is the second channel under intensity stereo, of MPEG-2, where nothing is shared. There scalefac_compress has 9
 -- bits: only those are looked at, so that a made-up record, whose number may have 16, has lengths of at most 5 bits too
 unfoldable pub planBy : Bool → Bool → List Bool → Shape → ℕ → Plan
 planBy true intensity shares AllLong c = planned (6 ∷ 5 ∷ 5 ∷ 5 ∷ []) (slen1 c ∷ slen1 c ∷ slen2 c ∷ slen2 c ∷ []) shares
 planBy true intensity shares AllShort c = planned (18 ∷ 18 ∷ 0 ∷ 0 ∷ []) (slen1 c ∷ slen2 c ∷ 0 ∷ 0 ∷ []) (replicate 4 false)
+planBy true intensity shares LongThenShort c = planned (8 ∷ 9 ∷ 18 ∷ 0 ∷ []) (slen1 c ∷ slen1 c ∷ slen2 c ∷ 0 ∷ []) (replicate 4 false)
 planBy false intensity shares k c = planned (lowCounts intensity k (c % 512)) (lowLengths intensity (c % 512)) (replicate 4 false)
 
 unfoldable pub planOf : Setting → SlotRecord → Plan
 planOf g r = planBy (g .mpeg1) (g .intensity) (g .shares) (shapeOf r) (r .«scalefac_compress»)
 
--- only long bands share with granule 0 (scfsi)
+-- only slots of long bands alone share with granule 0 (scfsi)
 abbrev pub mayShare : Shape → Bool
 mayShare AllLong = true
 mayShare AllShort = false
+mayShare LongThenShort = false
 
 -- where each factor comes from: so many from one source for each group
 unfoldable pub group : Plan → ℕ → List Source
@@ -74,19 +77,27 @@ factorsFrom (shared ∷ ps) old b = getD old 0 0 ∷ factorsFrom ps (drop 1 old)
 factorsFrom (coded w ∷ ps) old b = value (take w b) ∷ factorsFrom ps (drop 1 old) (drop w b)
 
 -- ---- 22 long factors and 39 short ones, three to a band; what isn't read is 0
+-- the long factors of a mixed block: those of the bands before number 36, of which MPEG-1 has more
+abbrev mixedLong : Bool → ℕ
+mixedLong true = 8
+mixedLong false = 6
+
 -- how many are long, in either version: they are read first
 abbrev pub longCount : Bool → Shape → ℕ
 longCount mpeg1 AllLong = 21
 longCount mpeg1 AllShort = 0
+longCount mpeg1 LongThenShort = mixedLong mpeg1
 
--- how many are short, and the place of the first of them: bands 0 to 11
+-- how many are short, and the place of the first of them: bands 0 to 11, and in a mixed block 3 to 11
 abbrev pub shortCount : Shape → ℕ
 shortCount AllLong = 0
 shortCount AllShort = 36
+shortCount LongThenShort = 27
 
 abbrev pub shortFrom : Shape → ℕ
 shortFrom AllLong = 0
 shortFrom AllShort = 0
+shortFrom LongThenShort = 9
 
 -- so many in all
 abbrev pub factorCount : Bool → Shape → ℕ

@@ -9,14 +9,14 @@ use native.Mathlib.Decide.{decLt}
 use native.Mathlib.Omega.{arith}
 use borrow.Author.Tests.{lt-ltb, le-ltb, leb-true, eqb-true}
 use lib.Dec.{ltb, leb, eqb}
-use lib.ListN.{length, getD, take, drop, replicate, length-append, length-replicate, length-take, length-drop, drop-of-length-le}
+use lib.ListN.{length, getD, take, drop, replicate, length-append, length-replicate, length-drop}
 use lib.Seq.{take-take, take-nil, drop-drop}
 use Rattle.standard.specs.Told.{pick}
 use Rattle.standard.specs.ToldLaws.{picked, passed, never, both-of}
 use Rattle.standard.specs.Bits.{bits, value}
 use Rattle.standard.specs.BitsLaws.{take-bits}
-use Rattle.standard.specs.RowsLaws.{every, every-at, every-in, rows-long}
-use Rattle.standard.specs.Lengths.{slenRows, slen1, slen2, lowRange, ordinaryLengths, intensityLengths, lowLengths, longCounts, shortCounts, intensityLongCounts, intensityShortCounts, countRows, lowCounts}
+use Rattle.standard.specs.RowsLaws.{every, every-at, every-in}
+use Rattle.standard.specs.Lengths.{slenRows, slen1, slen2, lowRange, ordinaryLengths, intensityLengths, lowLengths, longCounts, shortCounts, mixedCounts, intensityLongCounts, intensityShortCounts, intensityMixedCounts, countRows, lowCounts}
 use Rattle.standard.specs.LengthsLaws.{range-lt}
 use Rattle.standard.specs.Record.{shapeOf}
 use Rattle.standard.specs.Factors.{Source, shared, coded, planBy, planOf, group, groupsFrom, sourcesOf, mayShare, planBits, factorsFrom, longCount, shortCount, shortFrom, factorCount, widthOf, factorBy, shortFactors, bandsOf}
@@ -24,7 +24,7 @@ use Rattle.standard.specs.declared.SlotRecord.{SlotRecord}
 use Rattle.standard.specs.declared.Setting.{Setting}
 use Rattle.standard.specs.declared.Plan.{Plan}
 use Rattle.standard.specs.declared.Shape.{Shape}
-use Rattle.standard.specs.declared.Shape.the-variants.{AllLong, AllShort}
+use Rattle.standard.specs.declared.Shape.the-variants.{AllLong, AllShort, LongThenShort}
 
 -- ---- one source
 pub plan-bits-cons : (x : Source) (ps : List Source) → planBits (x ∷ ps) ≡ widthOf x + planBits ps
@@ -99,16 +99,19 @@ three-rows : (n : ℕ) (rows : List (List ℕ)) → every (λ (row : List ℕ). 
 three-rows n rows t e k h = eqb-true _ _ (every-in (λ (row : List ℕ). eqb (total row) n) [] rows t k (omega arith))
 
 low-total : (intensity : Bool) (k : Shape) (n : ℕ) → n < 3 → total (getD (countRows intensity k) n []) ≡ factorCount false k
-unfolding every longCounts shortCounts intensityLongCounts intensityShortCounts total
+unfolding every longCounts shortCounts mixedCounts intensityLongCounts intensityShortCounts intensityMixedCounts total
 low-total false AllLong = three-rows 21 longCounts refl refl
 low-total false AllShort = three-rows 36 shortCounts refl refl
+low-total false LongThenShort = three-rows 33 mixedCounts refl refl
 low-total true AllLong = three-rows 21 intensityLongCounts refl refl
 low-total true AllShort = three-rows 36 intensityShortCounts refl refl
+low-total true LongThenShort = three-rows 33 intensityMixedCounts refl refl
 
 counts-total : (mpeg1 intensity : Bool) (shares : List Bool) (k : Shape) (c : ℕ) → total (planBy mpeg1 intensity shares k c .counts) ≡ factorCount mpeg1 k
 unfolding total planBy lowCounts
 counts-total true intensity shares AllLong c = refl
 counts-total true intensity shares AllShort c = refl
+counts-total true intensity shares LongThenShort c = refl
 counts-total false intensity shares k c = low-total intensity k (lowRange intensity (c % 512)) (range-lt intensity (c % 512))
 
 groups-total : (p : Plan) → length (sourcesOf p) ≡ total (p .counts)
@@ -122,6 +125,8 @@ plan-length g r = groups-total (planOf g r) ∙ counts-total (g .mpeg1) (g .inte
 pub few-factors : (mpeg1 : Bool) (k : Shape) → factorCount mpeg1 k ≤ 36
 few-factors mpeg1 AllLong = omega arith
 few-factors mpeg1 AllShort = omega arith
+few-factors true LongThenShort = omega arith
+few-factors false LongThenShort = omega arith
 
 -- ---- no factor has more than 5 bits
 abbrev Small : List ℕ → Type 0
@@ -162,6 +167,7 @@ pub lengths-small : (mpeg1 intensity : Bool) (shares : List Bool) (k : Shape) (c
 unfolding planBy lowLengths
 lengths-small true intensity shares AllLong c = let w = slen-small c in small-four (w .0) (w .0) (w .1) (w .1)
 lengths-small true intensity shares AllShort c = let w = slen-small c in small-four (w .0) (w .1) (omega arith) (omega arith)
+lengths-small true intensity shares LongThenShort c = let w = slen-small c in small-four (w .0) (w .0) (w .1) (omega arith)
 lengths-small false false shares k c = ordinary-small (c % 512) (omega arith)
 lengths-small false true shares k c = intensity-small (c % 512 / 2) (omega arith)
 
@@ -242,6 +248,7 @@ pub shape-unshares : (mpeg1 intensity : Bool) (shares : List Bool) (k : Shape) (
 unfolding planBy
 shape-unshares true intensity shares AllLong c e = never (sym e)
 shape-unshares true intensity shares AllShort c e = none-shared 4
+shape-unshares true intensity shares LongThenShort c e = none-shared 4
 shape-unshares false intensity shares k c e = none-shared 4
 
 pub shape-unshared : (g : Setting) (r : SlotRecord) → mayShare (shapeOf r) ≡ false → Unshared (sourcesOf (planOf g r))
@@ -253,6 +260,7 @@ pub none-unshares : (mpeg1 intensity : Bool) (shares : List Bool) (k : Shape) (c
 unfolding planBy
 none-unshares true intensity shares AllLong c h = h
 none-unshares true intensity shares AllShort c h = none-shared 4
+none-unshares true intensity shares LongThenShort c h = none-shared 4
 none-unshares false intensity shares k c h = none-shared 4
 
 pub unshared-plan : (g : Setting) (r : SlotRecord) → ((n : ℕ) → getD (g .shares) n false ≡ false) → Unshared (sourcesOf (planOf g r))
@@ -268,6 +276,8 @@ plan-factors-length g r old b = factors-length (sourcesOf (planOf g r)) old b �
 pub room : (mpeg1 : Bool) (k : Shape) → (longCount mpeg1 k ≤ 21) × (shortFrom k + shortCount k ≤ 36)
 room mpeg1 AllLong = (omega arith, omega arith)
 room mpeg1 AllShort = (omega arith, omega arith)
+room true LongThenShort = (omega arith, omega arith)
+room false LongThenShort = (omega arith, omega arith)
 
 pub short-length : (mpeg1 : Bool) (k : Shape) (fs : List ℕ) → length fs ≡ factorCount mpeg1 k → length (shortFactors mpeg1 k fs) ≡ 39
 unfolding shortFactors

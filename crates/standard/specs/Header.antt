@@ -1,6 +1,6 @@
 -- A frame's header, from its first bytes (11172-3, 2.4.1.3 and 2.4.2.3; 13818-3, 2.4.2.3), which headers bytes read to, and the sizes
 -- that follow from one.
-use mathlib.Core.Bool.{Bool, true, false, not, _&&_, _||_}
+use mathlib.Core.Bool.{Bool, true, false, not, _&&_}
 use mathlib.Core.List.{List, [], _∷_}
 use Prim.Native.Nat.{ℕ, _+_, _-_, _*_, _/_, _%_}
 use lib.Dec.{ltb, leb, eqb}
@@ -199,6 +199,18 @@ isIntensity Mono = false
 isIntensity DualMono = false
 isIntensity Stereo = false
 isIntensity (JointStereo i m) = i
+
+-- 8 kHz, the one rate at which short band 3 does not start at number 36
+abbrev pub isSlow : SampleRate → Bool
+isSlow Hz8000 = true
+isSlow Hz11025 = false
+isSlow Hz12000 = false
+isSlow Hz16000 = false
+isSlow Hz22050 = false
+isSlow Hz24000 = false
+isSlow Hz32000 = false
+isSlow Hz44100 = false
+isSlow Hz48000 = false
 
 -- a frame lasts 1,152 samples, or 576: at b bits a second and r samples a second it has 1,152 b / r bits, which are 144 b / r bytes
 abbrev pub slotBytes : MpegVersion → ℕ

@@ -1,12 +1,12 @@
 -- How many bits a scale factor has, and how many factors have so many (11172-3, 2.4.2.7, scalefac_compress; 13818-3, 2.4.3.2).
 use mathlib.Core.Bool.{Bool, true, false}
 use mathlib.Core.List.{List, [], _∷_}
-use Prim.Native.Nat.{ℕ, _+_, _-_, _*_, _/_, _%_}
+use Prim.Native.Nat.{ℕ, _-_, _/_, _%_}
 use lib.Dec.{ltb}
 use lib.ListN.{getD}
 use Rattle.standard.specs.Told.{pick}
 use Rattle.standard.specs.declared.Shape.{Shape}
-use Rattle.standard.specs.declared.Shape.the-variants.{AllLong, AllShort}
+use Rattle.standard.specs.declared.Shape.the-variants.{AllLong, AllShort, LongThenShort}
 
 -- MPEG-1: slen1 and slen2 of scalefac_compress 0 to 15
 unfoldable pub slenRows : List (List ℕ)
@@ -78,6 +78,14 @@ shortCounts =
     (18 ∷ 18 ∷ 0 ∷ 0 ∷ []) ∷
     []
 
+-- six long ones and the nine short bands from the fourth on, in turn: a group may have both
+unfoldable pub mixedCounts : List (List ℕ)
+mixedCounts =
+    (6 ∷ 9 ∷ 9 ∷ 9 ∷ []) ∷
+    (6 ∷ 9 ∷ 12 ∷ 6 ∷ []) ∷
+    (15 ∷ 18 ∷ 0 ∷ 0 ∷ []) ∷
+    []
+
 -- and for the second channel under intensity stereo
 unfoldable pub intensityLongCounts : List (List ℕ)
 intensityLongCounts =
@@ -93,11 +101,20 @@ intensityShortCounts =
     (15 ∷ 12 ∷ 9 ∷ 0 ∷ []) ∷
     []
 
+unfoldable pub intensityMixedCounts : List (List ℕ)
+intensityMixedCounts =
+    (6 ∷ 15 ∷ 12 ∷ 0 ∷ []) ∷
+    (6 ∷ 12 ∷ 9 ∷ 6 ∷ []) ∷
+    (6 ∷ 18 ∷ 9 ∷ 0 ∷ []) ∷
+    []
+
 abbrev pub countRows : Bool → Shape → List (List ℕ)
 countRows false AllLong = longCounts
 countRows false AllShort = shortCounts
+countRows false LongThenShort = mixedCounts
 countRows true AllLong = intensityLongCounts
 countRows true AllShort = intensityShortCounts
+countRows true LongThenShort = intensityMixedCounts
 
 unfoldable pub lowCounts : Bool → Shape → ℕ → List ℕ
 lowCounts intensity k c = getD (countRows intensity k) (lowRange intensity c) []

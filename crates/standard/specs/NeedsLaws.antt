@@ -16,7 +16,7 @@ use Rattle.standard.specs.Refusals.{numberOf, offsetOf}
 use Rattle.standard.specs.RefusalsLaws.{why-is, unlike}
 use Rattle.standard.specs.Bits.{one, bits}
 use Rattle.standard.specs.Written.{Bytes}
-use Rattle.standard.specs.Header.{fields, lastBytes, secondByte, headerOf, isHeader, isMpeg1, isTwo, headerSize, sideBytes, sideSize, mainSize, dataSize, frameLength}
+use Rattle.standard.specs.Header.{fields, lastBytes, secondByte, headerOf, isHeader, isMpeg1, isTwo, isSlow, headerSize, sideBytes, sideSize, mainSize, dataSize, frameLength}
 use Rattle.standard.specs.Header.{syncLeast, ID, layer, protectionBit}
 use Rattle.standard.specs.HeaderLaws.{header-size, side-size, main-and-side}
 use Rattle.standard.specs.HeaderBytes.{header-known}
@@ -191,13 +191,14 @@ module _ (h : FrameHeader) (known : isHeader h ≡ true) (s : List ℕ) where
   side-fit =
       let mpeg1 = isMpeg1 (h .version) in
       let two = isTwo (h .channels) in
+      let slow = isSlow (h .rate) in
       let own = bits s (8 * headerSize h) (8 * sideBytes mpeg1 two) in
       let to = headerSize h + sideBytes mpeg1 two in
       let none : Told SideInfo = refused (AbsentBytes (absentFrom (headerSize h) (length s))) in
       let e = ap verdictOf (picked (refused MadeUpRecord) known) in
       record {
-        short = λ l. e ∙ ap verdictOf (picked (sideIn mpeg1 two own) (lt-ltb (length s) to l));
-        long = λ l n q. only-not (sideIn mpeg1 two own) (side-in-but 2 refl mpeg1 two own)
+        short = λ l. e ∙ ap verdictOf (picked (sideIn mpeg1 two slow own) (lt-ltb (length s) to l));
+        long = λ l n q. only-not (sideIn mpeg1 two slow own) (side-in-but 2 refl mpeg1 two slow own)
             (sym (e ∙ ap verdictOf (passed none (le-ltb (length s) to l))) ∙ q);
       }
 

@@ -16,7 +16,7 @@ use Rattle.standard.specs.Record.{isLong, shapeOf}
 use Rattle.standard.specs.declared.SampleRate.{SampleRate}
 use Rattle.standard.specs.declared.SlotRecord.{SlotRecord}
 use Rattle.standard.specs.declared.Shape.{Shape}
-use Rattle.standard.specs.declared.Shape.the-variants.{AllLong, AllShort}
+use Rattle.standard.specs.declared.Shape.the-variants.{AllLong, AllShort, LongThenShort}
 use Rattle.standard.specs.declared.Refusal.{Refusal}
 use Rattle.standard.specs.declared.Refusal.the-variants.{RegionOverrun, PairOverrun, NoCodeword}
 use Rattle.standard.specs.declared.Codeword.{Codeword}
@@ -114,13 +114,17 @@ abbrev pub quadTable : Bool → ℕ
 quadTable false = 32
 quadTable true = 33
 
--- ---- which table a pair is of, by its position: the regions. Those of long bands end where the bands of region0_count and region1_count do;
--- short bands change at 36 only
+-- ---- which table a pair is of, by its position: the regions. Where there are short bands the tables change at 36 only, at every rate
+abbrev pub windowRegions : Regions
+windowRegions = Split 36 perSlot
+
+-- those of long bands end where the bands of region0_count and region1_count do
 unfoldable pub regionsBy : Shape → SampleRate → SlotRecord → Regions
 regionsBy AllLong rate r =
     pick (isLong (r .«block_type») && ltb 20 (r .«region0_count» + r .«region1_count»)) NoRegions
     (Split (longStart rate (r .«region0_count» + 1)) (longStart rate (r .«region0_count» + r .«region1_count» + 2)))
-regionsBy AllShort rate r = Split 36 perSlot
+regionsBy AllShort rate r = windowRegions
+regionsBy LongThenShort rate r = windowRegions
 
 abbrev pub regionsOf : SampleRate → SlotRecord → Regions
 regionsOf rate r = regionsBy (shapeOf r) rate r

@@ -1,5 +1,5 @@
 -- A slot's record (11172-3, 2.4.1.7 and 2.4.2.7; 13818-3, 2.4.1.7), from its own bits, and which records bits read to.
--- `mpeg1` says whether the version is MPEG-1.
+-- `mpeg1` says whether the version is MPEG-1, `slow` whether the rate is 8 kHz.
 use mathlib.Core.Bool.{Bool, true, false, not, _&&_, Bool·beq}
 use mathlib.Core.List.{List, [], _∷_}
 use Prim.Native.Nat.{ℕ, _+_, _*_, _^_}
@@ -16,7 +16,7 @@ use Rattle.standard.specs.declared.BlockType.{BlockType}
 use Rattle.standard.specs.declared.BlockType.the-variants.{Long, Start, Short, End}
 use Rattle.standard.specs.declared.SlotRecord.{SlotRecord}
 use Rattle.standard.specs.declared.Shape.{Shape}
-use Rattle.standard.specs.declared.Shape.the-variants.{AllLong, AllShort}
+use Rattle.standard.specs.declared.Shape.the-variants.{AllLong, AllShort, LongThenShort}
 use Rattle.standard.specs.declared.Refusal.the-variants.{TooManyPairs, ForbiddenBlock, MixedBlock}
 
 -- ---- what the parts of a record are
@@ -42,24 +42,32 @@ isLong Start = false
 isLong Short = false
 isLong End = false
 
--- which bands a slot is of, by its block_type. Every rule that differs for short blocks is a clause for each shape
-abbrev pub shapeBy : BlockType → Shape
-shapeBy Long = AllLong
-shapeBy Start = AllLong
-shapeBy Short = AllShort
-shapeBy End = AllLong
+-- which bands a slot is of, by its block_type and mixed_block_flag. Every rule that differs for short blocks is a clause for each shape
+abbrev pub shapeBy : BlockType → Bool → Shape
+shapeBy Long mixed = AllLong
+shapeBy Start mixed = AllLong
+shapeBy Short false = AllShort
+shapeBy Short true = LongThenShort
+shapeBy End mixed = AllLong
 
 abbrev pub shapeOf : SlotRecord → Shape
-shapeOf r = shapeBy (r .«block_type»)
+shapeOf r = shapeBy (r .«block_type») (r .«mixed_block_flag»)
+
+abbrev pub isMixed : Shape → Bool
+isMixed AllLong = false
+isMixed AllShort = false
+isMixed LongThenShort = true
 
 -- the region counts that a switched block is given
 abbrev pub region0Of : Shape → ℕ
 region0Of AllLong = 7
 region0Of AllShort = 8
+region0Of LongThenShort = 7
 
 abbrev pub region1Of : Shape → ℕ
 region1Of AllLong = 13
 region1Of AllShort = 12
+region1Of LongThenShort = 13
 
 -- ---- the fields in order, each where the one before it ends (11172-3, 2.4.1.7):
 --   part2_3_length 12 bits, big_values 9, global_gain 8, scalefac_compress c, window_switching_flag 1,
@@ -125,6 +133,7 @@ longOf mpeg1 c b =
       «global_gain» = field b globalGainAt 8;
       «scalefac_compress» = field b compressAt c;
       «block_type» = Long;
+      «mixed_block_flag» = false;
       «subblock_gain» = gainOf 0 ∷ gainOf 0 ∷ gainOf 0 ∷ [];
       «table_select» = field b (tablesAt + c) 5 ∷ field b (tablesAt + 5 + c) 5 ∷ field b (tablesAt + 10 + c) 5 ∷ [];
       «region0_count» = field b (region0At + c) 4;
@@ -135,34 +144,36 @@ longOf mpeg1 c b =
     }
 
 -- and where it is
-unfoldable pub switchedOf : Bool → ℕ → BlockType → List Bool → SlotRecord
-switchedOf mpeg1 c t b =
+unfoldable pub switchedOf : Bool → ℕ → BlockType → Bool → List Bool → SlotRecord
+switchedOf mpeg1 c t mixed b =
     record {
       «part2_3_length» = field b 0 12;
       «big_values» = field b bigValuesAt 9;
       «global_gain» = field b globalGainAt 8;
       «scalefac_compress» = field b compressAt c;
       «block_type» = t;
+      «mixed_block_flag» = mixed;
       «subblock_gain» = gainOf (field b (gainsAt + c) 3) ∷ gainOf (field b (gainsAt + 3 + c) 3) ∷ gainOf (field b (gainsAt + 6 + c) 3) ∷ [];
       «table_select» = field b (switchedTablesAt + c) 5 ∷ field b (switchedTablesAt + 5 + c) 5 ∷ 0 ∷ [];
-      «region0_count» = region0Of (shapeBy t);
-      «region1_count» = region1Of (shapeBy t);
+      «region0_count» = region0Of (shapeBy t mixed);
+      «region1_count» = region1Of (shapeBy t mixed);
       preflag = preflagOf mpeg1 b;
       «scalefac_scale» = flag b (scaleAt mpeg1);
       «count1table_select» = flag b (count1At mpeg1);
     }
 
--- big_values above 288; in a switched window block type 0, and then the mixed flag
-unfoldable pub recordIn : Bool → ℕ → List Bool → Told SlotRecord
-recordIn mpeg1 c b =
+-- big_values above 288; in a switched window block type 0, and then a mixed short block where the rate is 8 kHz: there short band 3 does not start
+-- where the long bands of a mixed block end
+unfoldable pub recordIn : Bool → Bool → ℕ → List Bool → Told SlotRecord
+recordIn mpeg1 slow c b =
     pick (ltb mostBigValues (field b bigValuesAt 9)) (refused TooManyPairs)
     (pick (not (flag b (switchingAt + c))) (told (longOf mpeg1 c b))
     (pick (eqb (field b (typeAt + c) 2) 0) (refused ForbiddenBlock)
-    (pick (flag b (mixedAt + c)) (refused MixedBlock)
-    (told (switchedOf mpeg1 c (blockOf (field b (typeAt + c) 2)) b)))))
+    (pick (slow && isMixed (shapeBy (blockOf (field b (typeAt + c) 2)) (flag b (mixedAt + c)))) (refused MixedBlock)
+    (told (switchedOf mpeg1 c (blockOf (field b (typeAt + c) 2)) (flag b (mixedAt + c)) b)))))
 
-unfoldable pub recordOf : Bool → List Bool → Told SlotRecord
-recordOf mpeg1 b = recordIn mpeg1 (compressWidth mpeg1) b
+unfoldable pub recordOf : Bool → Bool → List Bool → Told SlotRecord
+recordOf mpeg1 slow b = recordIn mpeg1 slow (compressWidth mpeg1) b
 
 -- the record of a slot that the frame lacks
 unfoldable pub absent : SlotRecord
@@ -173,6 +184,7 @@ absent =
       «global_gain» = 0;
       «scalefac_compress» = 0;
       «block_type» = Long;
+      «mixed_block_flag» = false;
       «subblock_gain» = gainOf 0 ∷ gainOf 0 ∷ gainOf 0 ∷ [];
       «table_select» = 0 ∷ 0 ∷ 0 ∷ [];
       «region0_count» = 0;
@@ -208,7 +220,7 @@ below m n = ltb n m
 unfoldable pub isLongBody : SlotRecord → Bool
 isLongBody r =
     trio (below 32) (below 32) (below 32) (r .«table_select») && trio (gainBelow 1) (gainBelow 1) (gainBelow 1) (r .«subblock_gain»)
-    && (ltb (r .«region0_count») 16 && ltb (r .«region1_count») 8)
+    && (ltb (r .«region0_count») 16 && ltb (r .«region1_count») 8) && not (r .«mixed_block_flag»)
 
 unfoldable pub isSwitchedBody : SlotRecord → Bool
 isSwitchedBody r =
@@ -225,8 +237,12 @@ isHead mpeg1 r =
     (ltb (r .«global_gain») 256 && ltb (r .«scalefac_compress») (2 ^ compressWidth mpeg1))
     && isPreflag mpeg1 r
 
-unfoldable pub isRecord : Bool → SlotRecord → Bool
-isRecord mpeg1 r = isHead mpeg1 r && pick (isLong (r .«block_type»)) (isLongBody r) (isSwitchedBody r)
+-- at 8 kHz no mixed short block
+abbrev pub isUnmixed : Bool → SlotRecord → Bool
+isUnmixed slow r = not (slow && isMixed (shapeOf r))
+
+unfoldable pub isRecord : Bool → Bool → SlotRecord → Bool
+isRecord mpeg1 slow r = isHead mpeg1 r && isUnmixed slow r && pick (isLong (r .«block_type»)) (isLongBody r) (isSwitchedBody r)
 
 -- what stands past the end of a list of records
 abbrev pub pastRecord : SlotRecord
@@ -237,6 +253,7 @@ pastRecord =
       «global_gain» = 0;
       «scalefac_compress» = 0;
       «block_type» = Long;
+      «mixed_block_flag» = false;
       «subblock_gain» = [];
       «table_select» = [];
       «region0_count» = 0;

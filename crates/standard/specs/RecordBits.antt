@@ -6,7 +6,7 @@ use mathlib.Core.Logic.{_↔_}
 use mathlib.Core.List.{List, [], _∷_, _++_}
 use Prim.Native.Nat.{ℕ, zero, suc, _+_, _^_, _<_, _≤_}
 use native.Mathlib.Omega.{arith}
-use borrow.Author.Tests.{eqb-true, eqb-false, ltb-true, leb-true, ltb-false, lt-ltb, le-leb, eq-eqb, le-ltb}
+use borrow.Author.Tests.{eqb-true, eqb-false, ltb-true, leb-true, ltb-false, not-true, lt-ltb, le-leb, eq-eqb, le-ltb}
 use lib.ListN.{length, getD}
 use lib.Dec.{ltb, leb, eqb}
 use lib.Ieee.{Float, nan}
@@ -19,12 +19,12 @@ use Rattle.standard.specs.SameLaws.{beq-self, beq-is, float-self, float-
 use Rattle.standard.specs.Bits.{one, field, flag}
 use Rattle.standard.specs.BitsLaws.{one-le, one-is, field-lt}
 use Rattle.standard.specs.Written.{Part, _in-bits_, write, Fit, fit-append, Stand, stands-alone, width, length-write}
-use Rattle.standard.specs.Record.{gainOf, compressWidth, recordWidth, blockOf, shapeBy, shapeOf, isLong, region0Of, region1Of, preflagOf, scaleAt, count1At, longOf, switchedOf, recordIn, recordOf, gainsRow, gainNumber, gainBelow, trio, below, isLongBody, isSwitchedBody, isPreflag, isHead, isRecord}
+use Rattle.standard.specs.Record.{gainOf, compressWidth, recordWidth, blockOf, shapeBy, shapeOf, isMixed, isLong, region0Of, region1Of, preflagOf, scaleAt, count1At, longOf, switchedOf, recordIn, recordOf, gainsRow, gainNumber, gainBelow, trio, below, isLongBody, isSwitchedBody, isPreflag, isHead, isUnmixed, isRecord}
 use Rattle.standard.specs.declared.BlockType.{BlockType}
 use Rattle.standard.specs.declared.BlockType.the-variants.{Long, Start, Short, End}
 use Rattle.standard.specs.declared.Refusal.the-variants.{ForbiddenBlock, MixedBlock}
 use Rattle.standard.specs.declared.SlotRecord.{SlotRecord}
-use Rattle.standard.specs.declared.Shape.the-variants.{AllLong, AllShort}
+use Rattle.standard.specs.declared.Shape.the-variants.{AllLong, AllShort, LongThenShort}
 
 -- ---- the eight gains
 row-gain : (n : ℕ) → n < 8 → getD gainsRow n nan ≡ gainOf n
@@ -140,7 +140,8 @@ longParts r =
 
 abbrev switchedParts : SlotRecord → List Part
 switchedParts r =
-    (1 in-bits 1) ∷ (typeOf (r .«block_type») in-bits 2) ∷ (0 in-bits 1) ∷ (getD (r .«table_select») 0 0 in-bits 5) ∷ (getD (r .«table_select») 1 0 in-bits 5)
+    (1 in-bits 1) ∷ (typeOf (r .«block_type») in-bits 2) ∷ (one (r .«mixed_block_flag») in-bits 1)
+    ∷ (getD (r .«table_select») 0 0 in-bits 5) ∷ (getD (r .«table_select») 1 0 in-bits 5)
     ∷ (gainNumber (getD (r .«subblock_gain») 0 nan) in-bits 3) ∷ (gainNumber (getD (r .«subblock_gain») 1 nan) in-bits 3) ∷
     (gainNumber (getD (r .«subblock_gain») 2 nan) in-bits 3) ∷ []
 
@@ -177,7 +178,7 @@ BodyAt true c r b Last =
     (field b (29 + c) 1 ≡ 0) and (field b (30 + c) 5 ≡ getD (r .«table_select») 0 0) and (field b (35 + c) 5 ≡ getD (r .«table_select») 1 0)
     and (field b (40 + c) 5 ≡ getD (r .«table_select») 2 0) and (field b (45 + c) 4 ≡ r .«region0_count») and (field b (49 + c) 3 ≡ r .«region1_count») and Last
 BodyAt false c r b Last =
-    (field b (29 + c) 1 ≡ 1) and (field b (30 + c) 2 ≡ typeOf (r .«block_type»)) and (field b (32 + c) 1 ≡ 0) and
+    (field b (29 + c) 1 ≡ 1) and (field b (30 + c) 2 ≡ typeOf (r .«block_type»)) and (field b (32 + c) 1 ≡ one (r .«mixed_block_flag»)) and
     (field b (33 + c) 5 ≡ getD (r .«table_select») 0 0)
     and (field b (38 + c) 5 ≡ getD (r .«table_select») 1 0) and (field b (43 + c) 3 ≡ gainNumber (getD (r .«subblock_gain») 0 nan))
     and (field b (46 + c) 3 ≡ gainNumber (getD (r .«subblock_gain») 1 nan)) and (field b (49 + c) 3 ≡ gainNumber (getD (r .«subblock_gain») 2 nan)) and Last
@@ -234,22 +235,24 @@ parts-fit long mpeg1 r h f =
 module _ (r : SlotRecord) (t : isLong (r .«block_type») ≡ true) (body : isLongBody r ≡ true) where
   long-body : (trio (below 32) (below 32) (below 32) (r .«table_select») ≡ true)
       × (trio (gainBelow 1) (gainBelow 1) (gainBelow 1) (r .«subblock_gain») ≡ true) × (r .«region0_count» < 16) × (r .«region1_count» < 8)
+      × (r .«mixed_block_flag» ≡ false)
   unfolding isLongBody
   long-body =
+      let flag-off = both-of _ (not (r .«mixed_block_flag»)) body in
       let p = both-of
-      (trio (below 32) (below 32) (below 32) (r .«table_select») && trio (gainBelow 1) (gainBelow 1) (gainBelow 1) (r .«subblock_gain»)) _ body in
+      (trio (below 32) (below 32) (below 32) (r .«table_select») && trio (gainBelow 1) (gainBelow 1) (gainBelow 1) (r .«subblock_gain»)) _ (flag-off .0) in
       let q = both-of (trio (below 32) (below 32) (below 32) (r .«table_select»)) _ (p .0) in
       let u = both-of (ltb (r .«region0_count») 16) _ (p .1) in
-      (q .0, q .1, ltb-true _ _ (u .0), ltb-true _ _ (u .1))
+      (q .0, q .1, ltb-true _ _ (u .0), ltb-true _ _ (u .1), not-true _ (flag-off .1))
 
   long-fit : Fit (longParts r)
   long-fit =
       let ts = trio-is (below 32) (below 32) (below 32) 0 (r .«table_select») (long-body .0) in
       (omega arith, (ltb-true _ _ (ts .1), (ltb-true _ _ (ts .2), (ltb-true _ _ (ts .3), (long-body .2, (long-body .3, tt))))))
 
-  long-from : (mpeg1 : Bool) (b : List Bool) → isHead mpeg1 r ≡ true → RecordAt true mpeg1 r b → recordOf mpeg1 b ≡ told r
+  long-from : (mpeg1 slow : Bool) (b : List Bool) → isHead mpeg1 r ≡ true → RecordAt true mpeg1 r b → recordOf mpeg1 slow b ≡ told r
   unfolding recordOf recordIn longOf
-  long-from mpeg1 b h (length-at, (pairs-at, (gain-at, (compress-at, (window-at, (t0, (t1, (t2, (region0-at, (region1-at, last-at)))))))))) =
+  long-from mpeg1 slow b h (length-at, (pairs-at, (gain-at, (compress-at, (window-at, (t0, (t1, (t2, (region0-at, (region1-at, last-at)))))))))) =
       let k = head-is mpeg1 r h in
       let last = last-from mpeg1 r b (k .4) compress-at last-at in
       let gs = trio-is (gainBelow 1) (gainBelow 1) (gainBelow 1) nan (r .«subblock_gain») (long-body .1) in
@@ -264,6 +267,7 @@ module _ (r : SlotRecord) (t : isLong (r .«block_type») ≡ true) (body : isLo
         «global_gain» = gain-at j;
         «scalefac_compress» = compress-at j;
         «block_type» = long-is (r .«block_type») t j;
+        «mixed_block_flag» = sym (long-body .4) j;
         «subblock_gain» = three (no-gain-is _ (gs .1)) (no-gain-is _ (gs .2)) (no-gain-is _ (gs .3)) (gs .0) j;
         «table_select» = three t0 t1 t2 (ts .0) j;
         «region0_count» = region0-at j;
@@ -289,27 +293,32 @@ module _ (r : SlotRecord) (t : isLong (r .«block_type») ≡ false) (body : isS
   switched-fit : Fit (switchedParts r)
   switched-fit =
       let ts = trio-is (below 32) (below 32) (below 1) 0 (r .«table_select») (switched-body .0) in
-      let gs = trio-is (gainBelow 8) (gainBelow 8) (gainBelow 8) nan (r .«subblock_gain») (switched-body .1) in (
+      let gs = trio-is (gainBelow 8) (gainBelow 8) (gainBelow 8) nan (r .«subblock_gain») (switched-body .1) in
+      let g0 = gain-back _ (gs .1) .1 in
+      let g1 = gain-back _ (gs .2) .1 in
+      let g2 = gain-back _ (gs .3) .1 in (
         omega arith,
         (
           type-lt (r .«block_type»),
-          (omega arith, (ltb-true _ _ (ts .1), (ltb-true _ _ (ts .2), (gain-back _ (gs .1) .1, (gain-back _ (gs .2) .1, (gain-back _ (gs .3) .1, tt)))))),
+          (one-lt (r .«mixed_block_flag»), (ltb-true _ _ (ts .1), (ltb-true _ _ (ts .2), (g0, (g1, (g2, tt)))))),
         ),
       )
 
-  switched-from : (mpeg1 : Bool) (b : List Bool) → isHead mpeg1 r ≡ true → RecordAt false mpeg1 r b → recordOf mpeg1 b ≡ told r
+  switched-from : (mpeg1 slow : Bool) (b : List Bool) → isHead mpeg1 r ≡ true → isUnmixed slow r ≡ true → RecordAt false mpeg1 r b
+      → recordOf mpeg1 slow b ≡ told r
   unfolding recordOf recordIn switchedOf
-  switched-from mpeg1 b h (length-at, (pairs-at, (gain-at, (compress-at, (window-at, (type-at, (mixed-at, (t0, (t1, (g0, (g1, (g2, last-at)))))))))))) =
+  switched-from mpeg1 slow b h unmixed (length-at, (pairs-at, (gain-at, (compress-at, (window-at, (type-at, (mixed-at, (t0, (t1, (g0, (g1, (g2, l)))))))))))) =
       let c = compressWidth mpeg1 in
       let k = head-is mpeg1 r h in
-      let last = last-from mpeg1 r b (k .4) compress-at last-at in
+      let last = last-from mpeg1 r b (k .4) compress-at l in
       let gs = trio-is (gainBelow 8) (gainBelow 8) (gainBelow 8) nan (r .«subblock_gain») (switched-body .1) in
       let ts = trio-is (below 32) (below 32) (below 1) 0 (r .«table_select») (switched-body .0) in
       let block-at = ap blockOf type-at ∙ type-back (r .«block_type») in
+      let flag-at = flag-is b (32 + c) (r .«mixed_block_flag») mixed-at in
       passed _ (le-ltb 288 (field b 12 9) (rw pairs-at (k .1)))
       ∙ (passed _ (ap not (flag-is b (29 + c) true window-at))
       ∙ (passed _ (ap (λ (n : ℕ). eqb n 0) type-at ∙ type-switched (r .«block_type») t)
-      ∙ (passed _ (flag-is b (32 + c) false mixed-at)
+      ∙ (passed _ ((λ j. slow && isMixed (shapeBy (block-at j) (flag-at j))) ∙ not-true _ unmixed)
       ∙ (λ j.
       told
       (record {
@@ -318,30 +327,37 @@ module _ (r : SlotRecord) (t : isLong (r .«block_type») ≡ false) (body : isS
         «global_gain» = gain-at j;
         «scalefac_compress» = compress-at j;
         «block_type» = block-at j;
+        «mixed_block_flag» = flag-at j;
         «subblock_gain» =
             three (ap gainOf g0 ∙ gain-back _ (gs .1) .0) (ap gainOf g1 ∙ gain-back _ (gs .2) .0) (ap gainOf g2 ∙ gain-back _ (gs .3) .0) (gs .0) j;
         «table_select» = three t0 t1 (no-table-is _ (ts .3)) (ts .0) j;
-        «region0_count» = (ap (λ (u : BlockType). region0Of (shapeBy u)) block-at ∙ sym (switched-body .2)) j;
-        «region1_count» = (ap (λ (u : BlockType). region1Of (shapeBy u)) block-at ∙ sym (switched-body .3)) j;
+        «region0_count» = ((λ k. region0Of (shapeBy (block-at k) (flag-at k))) ∙ sym (switched-body .2)) j;
+        «region1_count» = ((λ k. region1Of (shapeBy (block-at k) (flag-at k))) ∙ sym (switched-body .3)) j;
         preflag = last .0 j;
         «scalefac_scale» = last .1 j;
         «count1table_select» = last .2 j;
       })))))
 
-pub record-back : (mpeg1 : Bool) (r : SlotRecord) → isRecord mpeg1 r ≡ true → recordOf mpeg1 (bitsOfRecord mpeg1 r) ≡ told r
+pub record-back : (mpeg1 slow : Bool) (r : SlotRecord) → isRecord mpeg1 slow r ≡ true → recordOf mpeg1 slow (bitsOfRecord mpeg1 r) ≡ told r
 unfolding isRecord bitsOfRecord pick
-record-back mpeg1 r e =
-    let p = both-of (isHead mpeg1 r) _ e in
-    go (isLong (r .«block_type»)) refl (p .0) (p .1)
+record-back mpeg1 slow r e =
+    let p = both-of (isHead mpeg1 r && isUnmixed slow r) _ e in
+    let q = both-of (isHead mpeg1 r) _ (p .0) in
+    go (isLong (r .«block_type»)) refl (q .0) (q .1) (p .1)
   where
-    go : (l : Bool) → isLong (r .«block_type») ≡ l → isHead mpeg1 r ≡ true → pick l (isLongBody r) (isSwitchedBody r) ≡ true
-        → recordOf mpeg1 (write (partsBy l mpeg1 r)) ≡ told r
-    go true t h b = long-from r t b mpeg1 _ h (record-at true mpeg1 r _ (stands-alone (partsBy true mpeg1 r) (parts-fit true mpeg1 r h (long-fit r t b))))
-    go false t h b =
-        switched-from r t b mpeg1 _ h (record-at false mpeg1 r _ (stands-alone (partsBy false mpeg1 r) (parts-fit false mpeg1 r h (switched-fit r t b))))
+    go : (l : Bool) → isLong (r .«block_type») ≡ l → isHead mpeg1 r ≡ true → isUnmixed slow r ≡ true → pick l (isLongBody r) (isSwitchedBody r) ≡ true
+        → recordOf mpeg1 slow (write (partsBy l mpeg1 r)) ≡ told r
+    go true t h u b =
+        long-from r t b mpeg1 slow _ h (record-at true mpeg1 r _ (stands-alone (partsBy true mpeg1 r) (parts-fit true mpeg1 r h (long-fit r t b))))
+    go false t h u b =
+        switched-from r t b mpeg1 slow _ h u (record-at false mpeg1 r _ (stands-alone (partsBy false mpeg1 r) (parts-fit false mpeg1 r h (switched-fit r t b))))
 
 -- ---- what is read passes the check
-module _ (mpeg1 : Bool) (b : List Bool) (pairs-le : field b 12 9 ≤ 288) where
+never-mixed : (slow : Bool) → not (slow && false) ≡ true
+never-mixed true = refl
+never-mixed false = refl
+
+module _ (mpeg1 slow : Bool) (b : List Bool) (pairs-le : field b 12 9 ≤ 288) where
   preflag-known : (m : Bool) (r : SlotRecord) → r .«scalefac_compress» ≡ field b 29 (compressWidth m) → r .preflag ≡ preflagOf m b → isPreflag m r ≡ true
   unfolding isPreflag preflagOf
   preflag-known true r e f = refl
@@ -357,27 +373,28 @@ module _ (mpeg1 : Bool) (b : List Bool) (pairs-le : field b 12 9 ≤ 288) where
       (lt-ltb (r .«scalefac_compress») (2 ^ compressWidth mpeg1) (rw h (field-lt b 29 (compressWidth mpeg1))))))
       (preflag-known mpeg1 r h k)
 
-  long-known : isRecord mpeg1 (longOf mpeg1 (compressWidth mpeg1) b) ≡ true
+  long-known : isRecord mpeg1 slow (longOf mpeg1 (compressWidth mpeg1) b) ≡ true
   unfolding isRecord longOf pick isLongBody
   long-known =
       let c = compressWidth mpeg1 in
-      both (head-known (longOf mpeg1 c b) refl refl refl refl refl)
-      (both (both
+      both (both (head-known (longOf mpeg1 c b) refl refl refl refl refl) (never-mixed slow))
+      (both (both (both
       (trio-all (below 32) (below 32) (below 32) _ _ _ (lt-ltb _ 32 (field-lt b (30 + c) 5)) (lt-ltb _ 32 (field-lt b (35 + c) 5))
       (lt-ltb _ 32 (field-lt b (40 + c) 5)))
       (trio-all (gainBelow 1) (gainBelow 1) (gainBelow 1) _ _ _ no-gain no-gain no-gain))
-      (both (lt-ltb _ 16 (field-lt b (45 + c) 4)) (lt-ltb _ 8 (field-lt b (49 + c) 3))))
+      (both (lt-ltb _ 16 (field-lt b (45 + c) 4)) (lt-ltb _ 8 (field-lt b (49 + c) 3)))) refl)
 
-  switched-known : (t : BlockType) → isLong t ≡ false → isRecord mpeg1 (switchedOf mpeg1 (compressWidth mpeg1) t b) ≡ true
+  switched-known : (t : BlockType) (x : Bool) → isLong t ≡ false → slow && isMixed (shapeBy t x) ≡ false
+      → isRecord mpeg1 slow (switchedOf mpeg1 (compressWidth mpeg1) t x b) ≡ true
   unfolding isRecord switchedOf isSwitchedBody
-  switched-known t h =
+  switched-known t x h u =
       let c = compressWidth mpeg1 in
-      both (head-known (switchedOf mpeg1 c t b) refl refl refl refl refl)
-      (passed (isLongBody (switchedOf mpeg1 c t b)) h
+      both (both (head-known (switchedOf mpeg1 c t x b) refl refl refl refl refl) (ap not u))
+      (passed (isLongBody (switchedOf mpeg1 c t x b)) h
       ∙ both (both (trio-all (below 32) (below 32) (below 1) _ _ _ (lt-ltb _ 32 (field-lt b (33 + c) 5)) (lt-ltb _ 32 (field-lt b (38 + c) 5)) refl)
       (trio-all (gainBelow 8) (gainBelow 8) (gainBelow 8) _ _ _ (gain-known _ (field-lt b (43 + c) 3)) (gain-known _ (field-lt b (46 + c) 3))
       (gain-known _ (field-lt b (49 + c) 3))))
-      (both (eq-eqb (region0Of (shapeBy t)) (region0Of (shapeBy t)) refl) (eq-eqb (region1Of (shapeBy t)) (region1Of (shapeBy t)) refl)))
+      (both (eq-eqb (region0Of (shapeBy t x)) (region0Of (shapeBy t x)) refl) (eq-eqb (region1Of (shapeBy t x)) (region1Of (shapeBy t x)) refl)))
 
 block-switched : (n : ℕ) → n < 4 → (n ≡ 0 → ⊥) → isLong (blockOf n) ≡ false
 unfolding blockOf
@@ -387,37 +404,44 @@ block-switched (suc (suc zero)) h k = refl
 block-switched (suc (suc (suc zero))) h k = refl
 block-switched (suc (suc (suc (suc n)))) h k = absurd (omega arith)
 
-pub record-known : (mpeg1 : Bool) (b : List Bool) (r : SlotRecord) → recordOf mpeg1 b ≡ told r → isRecord mpeg1 r ≡ true
+pub record-known : (mpeg1 slow : Bool) (b : List Bool) (r : SlotRecord) → recordOf mpeg1 slow b ≡ told r → isRecord mpeg1 slow r ≡ true
 unfolding recordOf recordIn
-record-known mpeg1 b r e0 =
+record-known mpeg1 slow b r e0 =
     let p = no-refusal (ltb 288 (field b 12 9)) _ _ r e0 in
     go (ltb-false _ _ (p .0)) (not (flag b (29 + compressWidth mpeg1))) (p .1)
   where
     go : field b 12 9 ≤ 288 → (l : Bool)
         → pick l (told (longOf mpeg1 (compressWidth mpeg1) b))
         (pick (eqb (field b (30 + compressWidth mpeg1) 2) 0) (refused ForbiddenBlock)
-        (pick (flag b (32 + compressWidth mpeg1)) (refused MixedBlock)
-        (told (switchedOf mpeg1 (compressWidth mpeg1) (blockOf (field b (30 + compressWidth mpeg1) 2)) b)))) ≡ told r → isRecord mpeg1 r ≡ true
-    go l true e = subst (λ (x : SlotRecord). isRecord mpeg1 x ≡ true) (told-is (sym (picked _ refl) ∙ e)) (long-known mpeg1 b l)
+        (pick (slow && isMixed (shapeBy (blockOf (field b (30 + compressWidth mpeg1) 2)) (flag b (32 + compressWidth mpeg1)))) (refused MixedBlock)
+        (told (switchedOf mpeg1 (compressWidth mpeg1) (blockOf (field b (30 + compressWidth mpeg1) 2)) (flag b (32 + compressWidth mpeg1)) b)))) ≡ told r
+        → isRecord mpeg1 slow r ≡ true
+    go l true e = subst (λ (x : SlotRecord). isRecord mpeg1 slow x ≡ true) (told-is (sym (picked _ refl) ∙ e)) (long-known mpeg1 slow b l)
     go l false e =
         let c = compressWidth mpeg1 in
         let p = no-refusal (eqb (field b (30 + c) 2) 0) _ _ r (sym (passed _ refl) ∙ e) in
-        let q = no-refusal (flag b (32 + c)) _ _ r (p .1) in
-        subst (λ (x : SlotRecord). isRecord mpeg1 x ≡ true) (told-is (q .1))
-        (switched-known mpeg1 b l (blockOf (field b (30 + c) 2)) (block-switched (field b (30 + c) 2) (field-lt b (30 + c) 2) (eqb-false _ _ (p .0))))
+        let t = blockOf (field b (30 + c) 2) in
+        let q = no-refusal (slow && isMixed (shapeBy t (flag b (32 + c)))) _ _ r (p .1) in
+        subst (λ (x : SlotRecord). isRecord mpeg1 slow x ≡ true) (told-is (q .1))
+        (switched-known mpeg1 slow b l t (flag b (32 + c)) (block-switched (field b (30 + c) 2) (field-lt b (30 + c) 2) (eqb-false _ _ (p .0))) (q .0))
 
 -- THE STATEMENT: a record is accepted exactly when some bits, as many as a record has, read to it
-pub record-read : (mpeg1 : Bool) (r : SlotRecord) → (isRecord mpeg1 r ≡ true) ↔ ((b : List Bool) × (length b ≡ recordWidth mpeg1) × (recordOf mpeg1 b ≡ told r))
-record-read mpeg1 r = (
-  λ e. (bitsOfRecord mpeg1 r, length-record mpeg1 r, record-back mpeg1 r e),
-  λ w. record-known mpeg1 (w .0) r (w .2),
+pub record-read : (mpeg1 slow : Bool) (r : SlotRecord)
+    → (isRecord mpeg1 slow r ≡ true) ↔ ((b : List Bool) × (length b ≡ recordWidth mpeg1) × (recordOf mpeg1 slow b ≡ told r))
+record-read mpeg1 slow r = (
+  λ e. (bitsOfRecord mpeg1 r, length-record mpeg1 r, record-back mpeg1 slow r e),
+  λ w. record-known mpeg1 slow (w .0) r (w .2),
 )
 
--- ---- the regions of a switched window: 8 and 12 of short bands, 7 and 13 of long ones
-pub switched-regions : (mpeg1 : Bool) (r : SlotRecord) → isRecord mpeg1 r ≡ true → isLong (r .«block_type») ≡ false
-    → (shapeOf r ≡ AllShort → (r .«region0_count» ≡ 8) × (r .«region1_count» ≡ 12))
-    × (shapeOf r ≡ AllLong → (r .«region0_count» ≡ 7) × (r .«region1_count» ≡ 13))
+-- ---- the regions of a switched window, by its shape
+pub switched-regions : (mpeg1 slow : Bool) (r : SlotRecord) → isRecord mpeg1 slow r ≡ true → isLong (r .«block_type») ≡ false
+    → (shapeOf r ≡ AllLong → (r .«region0_count» ≡ 7) × (r .«region1_count» ≡ 13))
+    × (shapeOf r ≡ AllShort → (r .«region0_count» ≡ 8) × (r .«region1_count» ≡ 12))
+    × (shapeOf r ≡ LongThenShort → (r .«region0_count» ≡ 7) × (r .«region1_count» ≡ 13))
 unfolding isRecord
-switched-regions mpeg1 r e t =
-    let k = switched-body r t (sym (passed (isLongBody r) t) ∙ both-of (isHead mpeg1 r) _ e .1) in
-    (λ s. (k .2 ∙ ap region0Of s, k .3 ∙ ap region1Of s), λ s. (k .2 ∙ ap region0Of s, k .3 ∙ ap region1Of s))
+switched-regions mpeg1 slow r e t =
+    let k = switched-body r t (sym (passed (isLongBody r) t) ∙ both-of (isHead mpeg1 r && isUnmixed slow r) _ e .1) in (
+      λ s. (k .2 ∙ ap region0Of s, k .3 ∙ ap region1Of s),
+      λ s. (k .2 ∙ ap region0Of s, k .3 ∙ ap region1Of s),
+      λ s. (k .2 ∙ ap region0Of s, k .3 ∙ ap region1Of s),
+    )

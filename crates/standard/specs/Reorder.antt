@@ -1,5 +1,5 @@
 -- The reorder of short blocks (11172-3, 2.4.3.4): window by window in each band before it, frequency by frequency after it.
-use mathlib.Core.Bool.{Bool, _&&_}
+use mathlib.Core.Bool.{_&&_}
 use mathlib.Core.List.{List, [], _∷_, _++_}
 use Prim.Native.Nat.{ℕ, zero, suc, _+_, _-_, _*_}
 use lib.Dec.{ltb}
@@ -8,13 +8,14 @@ use lib.ListN.{length, getD, take, drop}
 use Rattle.standard.specs.Sizes.{perSlot}
 use Rattle.standard.specs.Told.{Told, told, pick, refused}
 use Rattle.standard.specs.Bands.{rowOf, shortRows, shortStart}
-use Rattle.standard.specs.Header.{isMpeg1, isHeader}
-use Rattle.standard.specs.Record.{shapeOf, isRecord}
+use Rattle.standard.specs.Header.{isHeader}
+use Rattle.standard.specs.Record.{shapeOf}
+use Rattle.standard.specs.SideInfo.{isRecordUnder}
 use Rattle.standard.specs.declared.SampleRate.{SampleRate}
 use Rattle.standard.specs.declared.FrameHeader.{FrameHeader}
 use Rattle.standard.specs.declared.SlotRecord.{SlotRecord}
 use Rattle.standard.specs.declared.Shape.{Shape}
-use Rattle.standard.specs.declared.Shape.the-variants.{AllLong, AllShort}
+use Rattle.standard.specs.declared.Shape.the-variants.{AllLong, AllShort, LongThenShort}
 use Rattle.standard.specs.declared.Refusal.the-variants.{UnfitMemory, MadeUpRecord}
 
 -- which number comes to each place of a band of width w from a place on: at 3 j + window the one that stood at window w + j.
@@ -44,6 +45,7 @@ bandNumbers from w d = gathered (bandOrder from w 0 w) d
 abbrev pub firstShort : Shape → ℕ
 firstShort AllLong = 13
 firstShort AllShort = 0
+firstShort LongThenShort = 3
 
 -- the first 576 numbers of a slot, those of its short bands in their new order; others stay
 unfoldable pub reorderedFrom : SampleRate → ℕ → List ℤ → List ℤ
@@ -52,4 +54,4 @@ reorderedFrom rate k d = take (3 * shortStart rate k) d ++ gathered (orderOf rat
 unfoldable pub reorderOf : FrameHeader → SlotRecord → List ℤ → Told (List ℤ)
 reorderOf h r d =
     pick (ltb (length d) perSlot) (refused UnfitMemory)
-    (pick (isHeader h && isRecord (isMpeg1 (h .version)) r) (told (reorderedFrom (h .rate) (firstShort (shapeOf r)) d)) (refused MadeUpRecord))
+    (pick (isHeader h && isRecordUnder h r) (told (reorderedFrom (h .rate) (firstShort (shapeOf r)) d)) (refused MadeUpRecord))

@@ -9,20 +9,22 @@ use borrow.Author.Tests.{leb-true, eqb-true, lt-ltb, le-ltb}
 use lib.Dec.{leb, eqb}
 use lib.IntN.{ℤ, pos}
 use lib.ListN.{length, getD, take, drop, take-append-drop, drop-of-length-le}
-use lib.Seq.{drop-cons, drop-drop, drop-at, take-at}
+use lib.Seq.{drop-cons}
 use Rattle.standard.specs.Bands.{rowOf, shortRows, shortStart}
 use Rattle.standard.specs.BandsLaws.{row-lt}
 use Rattle.standard.specs.RowsLaws.{every, every-in, rows-long}
 use Rattle.standard.specs.Told.{told, refused}
 use Rattle.standard.specs.ToldLaws.{never, both-of, both, picked, passed}
-use Rattle.standard.specs.Header.{isMpeg1, isHeader}
-use Rattle.standard.specs.Record.{shapeOf, isRecord}
+use Rattle.standard.specs.Header.{isSlow, isHeader}
+use Rattle.standard.specs.Record.{shapeOf}
+use Rattle.standard.specs.SideInfo.{isRecordUnder}
 use Rattle.standard.specs.Reorder.{bandOrder, orderFrom, orderOf, gathered, bandNumbers, firstShort, reorderedFrom, reorderOf}
 use Rattle.standard.specs.declared.SampleRate.{SampleRate}
+use Rattle.standard.specs.declared.SampleRate.the-variants.{Hz8000, Hz11025, Hz12000, Hz16000, Hz22050, Hz24000, Hz32000, Hz44100, Hz48000}
 use Rattle.standard.specs.declared.FrameHeader.{FrameHeader}
 use Rattle.standard.specs.declared.SlotRecord.{SlotRecord}
 use Rattle.standard.specs.declared.Shape.{Shape}
-use Rattle.standard.specs.declared.Shape.the-variants.{AllLong, AllShort}
+use Rattle.standard.specs.declared.Shape.the-variants.{AllLong, AllShort, LongThenShort}
 use Rattle.standard.specs.declared.Refusal.the-variants.{UnfitMemory, MadeUpRecord}
 
 gathered-append : (is js : List ℕ) (d : List ℤ) → gathered (is ++ js) d ≡ gathered is d ++ gathered js d
@@ -140,25 +142,10 @@ lasts (b ∷ cs) e =
     let p : suc (length cs) - 1 ≡ length cs = omega arith in
     ap (λ (k : ℕ). getD (b ∷ cs) k 192) p ∙ last-from cs b (both-of (eqb b 0) (rising b cs) e .1)
 
--- every row's order has 576 places
-orderLong : List ℕ → Bool
-orderLong row = eqb (length (orderFrom 0 (drop 1 row))) 576
-
-all-long : every orderLong shortRows ≡ true
-unfolding every orderLong orderFrom bandOrder shortRows
-all-long = refl
-
 module _ (r : SampleRate) where
   pub short-first : shortStart r 0 ≡ 0
   unfolding shortStart
   short-first = starts-at-0 (getD shortRows (rowOf r) []) (row-rising r)
-
-  pub length-order : (d : List ℤ) → length (gathered (orderOf r 0) d) ≡ 576
-  unfolding orderOf orderLong shortRows
-  length-order d =
-      length-gathered (orderOf r 0) d
-      ∙ ap (λ (b : ℕ). length (orderFrom b (drop 1 (getD shortRows (rowOf r) [])))) short-first
-      ∙ eqb-true _ 576 (every-in orderLong [] shortRows all-long (rowOf r) (row-lt r))
 
   pub short-rises : (k : ℕ) → shortStart r k ≤ shortStart r (k + 1)
   unfolding shortStart
@@ -208,24 +195,33 @@ module _ (h : FrameHeader) (r : SlotRecord) (d : List ℤ) where
   few-numbers k = picked _ (lt-ltb (length d) 576 k)
 
   module _ (k : 576 ≤ length d) where
-    pub made-up : isHeader h && isRecord (isMpeg1 (h .version)) r ≡ false → reorderOf h r d ≡ refused MadeUpRecord
+    pub made-up : isHeader h && isRecordUnder h r ≡ false → reorderOf h r d ≡ refused MadeUpRecord
     unfolding reorderOf
     made-up e = passed _ (le-ltb (length d) 576 k) ∙ passed _ e
 
-    pub in-order : isHeader h ≡ true → isRecord (isMpeg1 (h .version)) r ≡ true → reorderOf h r d ≡ told (reorderedFrom (h .rate) (firstShort (shapeOf r)) d)
+    pub in-order : isHeader h ≡ true → isRecordUnder h r ≡ true → reorderOf h r d ≡ told (reorderedFrom (h .rate) (firstShort (shapeOf r)) d)
     unfolding reorderOf
     in-order e f = passed _ (le-ltb (length d) 576 k) ∙ picked _ (both e f)
 
 pub first-le : (k : Shape) → firstShort k ≤ 13
 first-le AllLong = omega arith
 first-le AllShort = omega arith
+first-le LongThenShort = omega arith
 
--- short bands alone: all 576 in their new order; long ones stay
-pub short-order : (rate : SampleRate) (d : List ℤ) → reorderedFrom rate (firstShort AllShort) d ≡ gathered (orderOf rate 0) (take 576 d) ++ drop 576 d
-unfolding reorderedFrom
-short-order rate d =
-    ap (λ (n : ℕ). take (3 * n) d ++ gathered (orderOf rate 0) (take 576 d) ++ drop 576 d) (short-first rate)
+-- at every rate but 8 kHz the short bands of a mixed block begin where its long ones end
+pub mixed-first : (r : SampleRate) → isSlow r ≡ false → 3 * shortStart r (firstShort LongThenShort) ≡ 36
+unfolding shortStart shortRows
+mixed-first Hz8000 e = never (sym e)
+mixed-first Hz11025 e = refl
+mixed-first Hz12000 e = refl
+mixed-first Hz16000 e = refl
+mixed-first Hz22050 e = refl
+mixed-first Hz24000 e = refl
+mixed-first Hz32000 e = refl
+mixed-first Hz44100 e = refl
+mixed-first Hz48000 e = refl
 
+-- long bands stay
 pub long-order : (rate : SampleRate) (d : List ℤ) → reorderedFrom rate (firstShort AllLong) d ≡ d
 unfolding reorderedFrom
 long-order rate d = order-end rate d (take 576 d)

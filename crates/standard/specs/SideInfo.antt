@@ -1,5 +1,5 @@
 -- A frame's side information (11172-3, 2.4.1.7; 13818-3, 2.4.1.7), from the frame's bytes, and which side information bytes read to
--- under a header. `mpeg1` says whether the version is MPEG-1, `two` whether there are two channels.
+-- under a header. `mpeg1` says whether the version is MPEG-1, `two` whether there are two channels, `slow` whether the rate is 8 kHz.
 use mathlib.Core.Bool.{Bool, true, false, not, _&&_}
 use mathlib.Core.List.{List, [], _∷_, _++_}
 use Prim.Native.Nat.{ℕ, zero, suc, _+_, _-_, _*_, _^_}
@@ -7,7 +7,7 @@ use lib.Dec.{ltb, eqb}
 use lib.ListN.{length, take, drop, replicate}
 use Rattle.standard.specs.Told.{Told, refused, told, pick}
 use Rattle.standard.specs.Bits.{bits, field}
-use Rattle.standard.specs.Header.{isMpeg1, isTwo, isHeader, headerSize, sideBytes, granulesIn, channelsIn}
+use Rattle.standard.specs.Header.{isMpeg1, isTwo, isSlow, isHeader, headerSize, sideBytes, granulesIn, channelsIn}
 use Rattle.standard.specs.Record.{absent, recordOf, recordWidth, isRecord, isLong, gainBelow, below, trio}
 use Rattle.standard.specs.declared.FrameHeader.{FrameHeader}
 use Rattle.standard.specs.declared.SlotRecord.{SlotRecord}
@@ -46,10 +46,10 @@ thenRecords (refused k) y = refused k
 thenRecords (told r) (refused k) = refused k
 thenRecords (told r) (told rs) = told (r ∷ rs)
 
-unfoldable pub recordsOf : Bool → ℕ → List Bool → Told (List SlotRecord)
-recordsOf mpeg1 zero b = told []
-recordsOf mpeg1 (suc n) b =
-    thenRecords (recordOf mpeg1 (take (recordWidth mpeg1) b)) (recordsOf mpeg1 n (drop (recordWidth mpeg1) b))
+unfoldable pub recordsOf : Bool → Bool → ℕ → List Bool → Told (List SlotRecord)
+recordsOf mpeg1 slow zero b = told []
+recordsOf mpeg1 slow (suc n) b =
+    thenRecords (recordOf mpeg1 slow (take (recordWidth mpeg1) b)) (recordsOf mpeg1 slow n (drop (recordWidth mpeg1) b))
 
 unfoldable pub thenSide : Bool → Bool → List Bool → Told (List SlotRecord) → Told SideInfo
 thenSide mpeg1 two b (refused k) = refused k
@@ -62,23 +62,23 @@ thenSide mpeg1 two b (told rs) =
     })
 
 -- from exactly the bits of the side information
-unfoldable pub sideIn : Bool → Bool → List Bool → Told SideInfo
-sideIn mpeg1 two b =
-    thenSide mpeg1 two b (recordsOf mpeg1 (slotCount mpeg1 two) (drop (sharesAt mpeg1 two + shareCount mpeg1 two) b))
+unfoldable pub sideIn : Bool → Bool → Bool → List Bool → Told SideInfo
+sideIn mpeg1 two slow b =
+    thenSide mpeg1 two b (recordsOf mpeg1 slow (slotCount mpeg1 two) (drop (sharesAt mpeg1 two + shareCount mpeg1 two) b))
 
 -- of the bytes from a place on, n bytes being there, the first that is absent
 unfoldable pub absentFrom : ℕ → ℕ → ℕ
 absentFrom from n = pick (ltb n from) from n
 
 -- from the frame's bytes, of which the header takes the first `from`
-unfoldable pub sideFrom : Bool → Bool → ℕ → List ℕ → Told SideInfo
-sideFrom mpeg1 two from s =
+unfoldable pub sideFrom : Bool → Bool → Bool → ℕ → List ℕ → Told SideInfo
+sideFrom mpeg1 two slow from s =
     pick (ltb (length s) (from + sideBytes mpeg1 two)) (refused (AbsentBytes (absentFrom from (length s))))
-    (sideIn mpeg1 two (bits s (8 * from) (8 * sideBytes mpeg1 two)))
+    (sideIn mpeg1 two slow (bits s (8 * from) (8 * sideBytes mpeg1 two)))
 
 unfoldable pub sideOf : FrameHeader → List ℕ → Told SideInfo
 sideOf h s =
-    pick (isHeader h) (sideFrom (isMpeg1 (h .version)) (isTwo (h .channels)) (headerSize h) s) (refused MadeUpRecord)
+    pick (isHeader h) (sideFrom (isMpeg1 (h .version)) (isTwo (h .channels)) (isSlow (h .rate)) (headerSize h) s) (refused MadeUpRecord)
 
 -- what a refusal's answer has in the place of side information
 unfoldable pub noSide : SideInfo
@@ -90,7 +90,8 @@ noHead r = eqb (r .«part2_3_length») 0 && eqb (r .«big_values») 0 && (eqb (r
 
 unfoldable pub noBody : SlotRecord → Bool
 noBody r =
-    isLong (r .«block_type») && trio (gainBelow 1) (gainBelow 1) (gainBelow 1) (r .«subblock_gain») && trio (below 1) (below 1) (below 1) (r .«table_select»)
+    isLong (r .«block_type») && not (r .«mixed_block_flag») && trio (gainBelow 1) (gainBelow 1) (gainBelow 1) (r .«subblock_gain»)
+    && trio (below 1) (below 1) (below 1) (r .«table_select»)
 
 unfoldable pub noTail : SlotRecord → Bool
 noTail r = (eqb (r .«region0_count») 0 && eqb (r .«region1_count») 0) && (not (r .preflag) && not (r .«scalefac_scale») && not (r .«count1table_select»))
@@ -100,11 +101,11 @@ unfoldable pub isAbsent : SlotRecord → Bool
 isAbsent r = noHead r && noBody r && noTail r
 
 -- n records, and then lacking slots
-unfoldable pub fitSlots : Bool → ℕ → List SlotRecord → Bool
-fitSlots mpeg1 zero [] = true
-fitSlots mpeg1 zero (r ∷ rs) = isAbsent r && fitSlots mpeg1 zero rs
-fitSlots mpeg1 (suc n) [] = false
-fitSlots mpeg1 (suc n) (r ∷ rs) = isRecord mpeg1 r && fitSlots mpeg1 n rs
+unfoldable pub fitSlots : Bool → Bool → ℕ → List SlotRecord → Bool
+fitSlots mpeg1 slow zero [] = true
+fitSlots mpeg1 slow zero (r ∷ rs) = isAbsent r && fitSlots mpeg1 slow zero rs
+fitSlots mpeg1 slow (suc n) [] = false
+fitSlots mpeg1 slow (suc n) (r ∷ rs) = isRecord mpeg1 slow r && fitSlots mpeg1 slow n rs
 
 -- none from the n-th on is set
 unfoldable pub noShares : ℕ → List Bool → Bool
@@ -115,12 +116,16 @@ noShares (suc n) (x ∷ l) = noShares n l
 unfoldable pub areShares : ℕ → List Bool → Bool
 areShares n l = eqb (length l) 8 && noShares n l
 
-unfoldable pub areSlots : Bool → ℕ → List SlotRecord → Bool
-areSlots mpeg1 n l = eqb (length l) 4 && fitSlots mpeg1 n l
+unfoldable pub areSlots : Bool → Bool → ℕ → List SlotRecord → Bool
+areSlots mpeg1 slow n l = eqb (length l) 4 && fitSlots mpeg1 slow n l
 
-unfoldable pub isSideBy : Bool → Bool → SideInfo → Bool
-isSideBy mpeg1 two i =
-    ltb (i .«main_data_begin») (2 ^ beginWidth mpeg1) && areShares (shareCount mpeg1 two) (i .scfsi) && areSlots mpeg1 (slotCount mpeg1 two) (i .slots)
+unfoldable pub isSideBy : Bool → Bool → Bool → SideInfo → Bool
+isSideBy mpeg1 two slow i =
+    ltb (i .«main_data_begin») (2 ^ beginWidth mpeg1) && areShares (shareCount mpeg1 two) (i .scfsi) && areSlots mpeg1 slow (slotCount mpeg1 two) (i .slots)
+
+-- under a header
+abbrev pub isRecordUnder : FrameHeader → SlotRecord → Bool
+isRecordUnder h r = isRecord (isMpeg1 (h .version)) (isSlow (h .rate)) r
 
 unfoldable pub isSide : FrameHeader → SideInfo → Bool
-isSide h i = isSideBy (isMpeg1 (h .version)) (isTwo (h .channels)) i
+isSide h i = isSideBy (isMpeg1 (h .version)) (isTwo (h .channels)) (isSlow (h .rate)) i

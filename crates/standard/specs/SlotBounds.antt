@@ -11,7 +11,7 @@ use lib.ListN.{length, getD, take, length-take}
 use Rattle.standard.specs.Told.{Told, toldOr}
 use Rattle.standard.specs.ToldLaws.{either-way}
 use Rattle.standard.specs.Codes.{wordOf}
-use Rattle.standard.specs.Header.{isMpeg1, isTwo, granulesIn, channelsIn, granules, channelCount, isHeader}
+use Rattle.standard.specs.Header.{isMpeg1, isTwo, isSlow, granulesIn, channelsIn, granules, channelCount, isHeader}
 use Rattle.standard.specs.Record.{shapeOf, absent}
 use Rattle.standard.specs.SideInfo.{isSide}
 use Rattle.standard.specs.SideLaws.{slot-record, small-record}
@@ -108,7 +108,7 @@ module _ (h : FrameHeader) (i : SideInfo) (known : isSide h i ≡ true) where
   record-small : (k : ℕ) → k < length (records h i) → (getD (records h i) k absent .«part2_3_length» < 4096) × (getD (records h i) k absent .«big_values» ≤ 288)
   record-small k l =
       let m : k < granules h * channelCount h = omega (arith, length-take (granules h * channelCount h) (i .slots), l) in
-      rw (getD-take k (granules h * channelCount h) (i .slots) absent l) (small-record (isMpeg1 (h .version)) _ (slot-record h i known k m))
+      rw (getD-take k (granules h * channelCount h) (i .slots) absent l) (small-record (isMpeg1 (h .version)) (isSlow (h .rate)) _ (slot-record h i known k m))
 
   -- where the n-th slot starts
   pub start-le : (n : ℕ) → n ≤ 4 → startOf n (records h i) ≤ 16380

@@ -14,7 +14,7 @@ use Rattle.standard.specs.Told.{Told, refused, told, pick}
 use Rattle.standard.specs.ToldLaws.{picked, passed, never, both-of, either-way}
 use Rattle.standard.specs.Bits.{bits}
 use Rattle.standard.specs.Written.{Bytes}
-use Rattle.standard.specs.Header.{isMpeg1, isTwo, lastBytes, secondByte, headerOf, headerSize, sideBytes, sideSize, mainSize, frameLength}
+use Rattle.standard.specs.Header.{isMpeg1, isTwo, isSlow, lastBytes, secondByte, headerOf, headerSize, sideBytes, sideSize, mainSize, frameLength}
 use Rattle.standard.specs.HeaderBytes.{header-known}
 use Rattle.standard.specs.HeaderLaws.{reservoir-le}
 use Rattle.standard.specs.Record.{recordIn, recordOf, recordWidth}
@@ -56,9 +56,9 @@ only-of p e f = sym (ap (only p) e) ∙ f
 abbrev ofRecord : ℕ → Bool
 ofRecord n = leb 10 n && leb n 12
 
-record-only : (mpeg1 : Bool) (b : List Bool) → only ofRecord (recordOf mpeg1 b) ≡ true
+record-only : (mpeg1 slow : Bool) (b : List Bool) → only ofRecord (recordOf mpeg1 slow b) ≡ true
 unfolding recordOf recordIn only
-record-only mpeg1 b =
+record-only mpeg1 slow b =
     pick-only _ _ _ _ refl
     (either-way (λ (t : Told SlotRecord). only ofRecord t ≡ true) _ _ _ (λ e. refl) (λ e. pick-only _ _ _ _ refl (pick-only _ _ _ _ refl refl)))
 
@@ -68,19 +68,19 @@ then-only p (refused k) ts e f = e
 then-only p (told r) (refused k) e f = f
 then-only p (told r) (told rs) e f = refl
 
-records-only : (mpeg1 : Bool) (n : ℕ) (b : List Bool) → only ofRecord (recordsOf mpeg1 n b) ≡ true
+records-only : (mpeg1 slow : Bool) (n : ℕ) (b : List Bool) → only ofRecord (recordsOf mpeg1 slow n b) ≡ true
 unfolding recordsOf only
-records-only mpeg1 zero b = refl
-records-only mpeg1 (suc n) b = then-only ofRecord _ _ (record-only mpeg1 _) (records-only mpeg1 n (drop (recordWidth mpeg1) b))
+records-only mpeg1 slow zero b = refl
+records-only mpeg1 slow (suc n) b = then-only ofRecord _ _ (record-only mpeg1 slow _) (records-only mpeg1 slow n (drop (recordWidth mpeg1) b))
 
 slots-only : (p : ℕ → Bool) (mpeg1 two : Bool) (b : List Bool) (t : Told (List SlotRecord)) → only p t ≡ true → only p (thenSide mpeg1 two b t) ≡ true
 unfolding thenSide only
 slots-only p mpeg1 two b (refused k) e = e
 slots-only p mpeg1 two b (told rs) e = refl
 
-side-in-only : (mpeg1 two : Bool) (b : List Bool) → only ofRecord (sideIn mpeg1 two b) ≡ true
+side-in-only : (mpeg1 two slow : Bool) (b : List Bool) → only ofRecord (sideIn mpeg1 two slow b) ≡ true
 unfolding sideIn
-side-in-only mpeg1 two b = slots-only ofRecord mpeg1 two b _ (records-only mpeg1 _ _)
+side-in-only mpeg1 two slow b = slots-only ofRecord mpeg1 two b _ (records-only mpeg1 slow _ _)
 
 -- neither header nor side information by 13
 abbrev pub but : ℕ → ℕ → Bool
@@ -97,8 +97,8 @@ but-is k e n f =
     go true h low high g = omega (arith, ltb-true k 10 h)
     go false h low high g = omega (arith, ltb-true 12 k (sym (ap (λ (b : Bool). b || ltb 12 k) h) ∙ e))
 
-pub side-in-but : (k : ℕ) → ltb k 10 || ltb 12 k ≡ true → (mpeg1 two : Bool) (b : List Bool) → only (but k) (sideIn mpeg1 two b) ≡ true
-side-in-but k e mpeg1 two b = only-more ofRecord (but k) (but-is k e) (sideIn mpeg1 two b) (side-in-only mpeg1 two b)
+pub side-in-but : (k : ℕ) → ltb k 10 || ltb 12 k ≡ true → (mpeg1 two slow : Bool) (b : List Bool) → only (but k) (sideIn mpeg1 two slow b) ≡ true
+side-in-but k e mpeg1 two slow b = only-more ofRecord (but k) (but-is k e) (sideIn mpeg1 two slow b) (side-in-only mpeg1 two slow b)
 
 header-other : (s : List ℕ) → only (but 13) (headerOf s) ≡ true
 unfolding headerOf secondByte lastBytes only
@@ -112,8 +112,9 @@ unfolding sideOf sideFrom only
 side-other h s =
     let mpeg1 = isMpeg1 (h .version) in
     let two = isTwo (h .channels) in
+    let slow = isSlow (h .rate) in
     either-way (λ (t : Told SideInfo). only (but 13) t ≡ true) _ _ _
-    (λ e. pick-only _ _ _ _ refl (side-in-but 13 refl mpeg1 two (bits s (8 * headerSize h) (8 * sideBytes mpeg1 two)))) (λ e. refl)
+    (λ e. pick-only _ _ _ _ refl (side-in-but 13 refl mpeg1 two slow (bits s (8 * headerSize h) (8 * sideBytes mpeg1 two)))) (λ e. refl)
 
 -- ---- the three ways
 -- a frame all of whose bytes are there

@@ -1,15 +1,15 @@
 -- Worked from bytes (docs/RULES.md, Frame F): the starred rows in one table with a single statement, and the others, computed from the definition.
 use mathlib.Core.Path.{_≡_, refl}
 use mathlib.Core.List.{List, [], _∷_, _++_}
-use Prim.Native.Nat.{ℕ, _*_}
+use Prim.Native.Nat.{ℕ, zero, suc, _*_}
 use lib.IntN.{ℤ, pos, negsuc}
 use lib.ListN.{length, take, replicate, set}
-use Rattle.standard.specs.Told.{Told, refused, told, pick, toldOr}
+use Rattle.standard.specs.Told.{refused, pick, toldOr}
 use Rattle.standard.specs.Bits.{bitAt, bits, between, valueFrom, value, field, flag, fieldAt}
 use Rattle.standard.specs.Rows.{member, later, place}
 use Rattle.standard.specs.Codes.{lowBits, pair, quad, starts, first, begun, decode, silent, table1, tableB, codes, published, wordOf, escapes, escapeWidth}
 use Rattle.standard.specs.Bands.{longRows, shortRows, longStart, shortStart}
-use Rattle.standard.specs.Lengths.{slenRows, slen1, slen2, rangeIn, lowRange, ordinaryLengths, intensityLengths, lowLengths, longCounts, shortCounts, intensityLongCounts, intensityShortCounts, lowCounts}
+use Rattle.standard.specs.Lengths.{slenRows, slen1, slen2, rangeIn, lowRange, ordinaryLengths, intensityLengths, lowLengths, longCounts, shortCounts, mixedCounts, intensityLongCounts, intensityShortCounts, intensityMixedCounts, lowCounts}
 use Rattle.standard.specs.Header.{bitrates, rates, versionOf, emphasisOf, channelsOf, fields, lastBytes, secondByte, headerOf, sameBitrate, sameRate, isHeader, headerSize, dataSize, frameLength, sideSize, mainSize, granules, channelCount, noHeader}
 use Rattle.standard.specs.Record.{blockOf, preflagOf, longOf, switchedOf, recordIn, recordOf, absent}
 use Rattle.standard.specs.SideInfo.{thenRecords, recordsOf, thenSide, sideIn, sideFrom, sideOf, noSide}
@@ -18,10 +18,12 @@ use Rattle.standard.specs.Numbers.{escaped, magnitudeOf, signOf, signed,
 use Rattle.standard.specs.Slots.{Outcome, stopped, holds, isStopped, longOf as longFactorsOf, anyOf, withFactors, slotBy, slotOf, sharesOf, settingOf, alone, mateOf, slotIn, thenSlots, slotsFrom, slotsOf}
 use Rattle.standard.specs.Reservoir.{Kept, untouched, keeping, reaching, adding, turnOf}
 use Rattle.standard.specs.Frame.{Step, noStep, shortStep, fullStep, withTurn, withSide, withHeader, frameOf}
-use Rattle.standard.specs.Reorder.{bandOrder, orderFrom, orderOf, gathered}
+use Rattle.standard.specs.Reorder.{bandOrder, orderFrom, orderOf, gathered, firstShort, reorderedFrom}
 use Rattle.standard.specs.declared.SampleRate.{SampleRate}
 use Rattle.standard.specs.declared.SampleRate.the-variants.{Hz44100}
-use Rattle.standard.specs.declared.Refusal.the-variants.{MissingBits, FactorOverrun, RegionOverrun, PairOverrun, ShortReservoir, ReservedVersion, ReservedLayer, OtherLayer, FreeBitrate, ForbiddenBitrate, ReservedRate, TooManyPairs}
+use Rattle.standard.specs.declared.Shape.{Shape}
+use Rattle.standard.specs.declared.Shape.the-variants.{AllShort, LongThenShort}
+use Rattle.standard.specs.declared.Refusal.the-variants.{MissingBits, FactorOverrun, RegionOverrun, PairOverrun, ShortReservoir, ReservedVersion, ReservedLayer, OtherLayer, FreeBitrate, ForbiddenBitrate, ReservedRate, TooManyPairs, MixedBlock}
 use Rattle.standard.specs.declared.Refusal.{Refusal}
 use Rattle.standard.specs.declared.Verdict.{Verdict}
 use Rattle.standard.specs.declared.Verdict.the-variants.{Accepted, Refused}
@@ -45,6 +47,11 @@ read vs = holds (replicate 22 0) (replicate 39 0) vs
 abbrev pub numbersF : List ℤ
 numbersF = negsuc 0 ∷ pos 0 ∷ pos 0 ∷ pos 0 ∷ pos 1 ∷ pos 0 ∷ []
 
+-- n numbers, each one more than the one before it
+unfoldable pub upFrom : ℕ → ℕ → List ℤ
+upFrom k zero = []
+upFrom k (suc n) = pos k ∷ upFrom (suc k) n
+
 -- main_data_begin is the byte after the header
 abbrev pub mainF : List ℕ
 mainF = 0x7A ∷ replicate 10 0x00
@@ -54,7 +61,7 @@ reachingBack n = set frameF 4 n
 
 -- ---- a frame's step from its bytes and the reservoir's, and its parts
 unfoldable pub step : List ℕ → List ℕ → Step
-unfolding pick bitAt bits between valueFrom value field flag fieldAt member later place lowBits pair quad starts first begun decode silent table1 tableB codes published wordOf escapes escapeWidth longRows shortRows longStart shortStart slenRows slen1 slen2 rangeIn lowRange ordinaryLengths intensityLengths lowLengths longCounts shortCounts intensityLongCounts intensityShortCounts lowCounts bitrates rates versionOf emphasisOf channelsOf fields lastBytes secondByte headerOf sameBitrate sameRate isHeader headerSize dataSize frameLength sideSize mainSize granules channelCount noHeader blockOf preflagOf longOf switchedOf recordIn recordOf absent thenRecords recordsOf thenSide sideIn sideFrom sideOf noSide planBy planOf group groupsFrom planBits factorsFrom longFactors shortFactors escaped magnitudeOf signOf signed further thenSign numberIn twoLast twoFirst twoOf pairAfter pairWord pairOf quadLast quadFirst quadWord quadOf regionsBy tableAt prepend thenPairs pairs thenQuads quads thenRest numbersBy numbersOf padded isStopped longFactorsOf anyOf withFactors slotBy slotOf sharesOf settingOf alone mateOf slotIn thenSlots slotsFrom slotsOf reaching adding turnOf noStep shortStep fullStep withTurn withSide withHeader frameOf
+unfolding pick bitAt bits between valueFrom value field flag fieldAt member later place lowBits pair quad starts first begun decode silent table1 tableB codes published wordOf escapes escapeWidth longRows shortRows longStart shortStart slenRows slen1 slen2 rangeIn lowRange ordinaryLengths intensityLengths lowLengths longCounts shortCounts mixedCounts intensityLongCounts intensityShortCounts intensityMixedCounts lowCounts bitrates rates versionOf emphasisOf channelsOf fields lastBytes secondByte headerOf sameBitrate sameRate isHeader headerSize dataSize frameLength sideSize mainSize granules channelCount noHeader blockOf preflagOf longOf switchedOf recordIn recordOf absent thenRecords recordsOf thenSide sideIn sideFrom sideOf noSide planBy planOf group groupsFrom planBits factorsFrom longFactors shortFactors escaped magnitudeOf signOf signed further thenSign numberIn twoLast twoFirst twoOf pairAfter pairWord pairOf quadLast quadFirst quadWord quadOf regionsBy tableAt prepend thenPairs pairs thenQuads quads thenRest numbersBy numbersOf padded isStopped longFactorsOf anyOf withFactors slotBy slotOf sharesOf settingOf alone mateOf slotIn thenSlots slotsFrom slotsOf reaching adding turnOf noStep shortStep fullStep withTurn withSide withHeader frameOf
 step s old = frameOf s old
 
 unfoldable pub verdict : List ℕ → Verdict
@@ -71,8 +78,8 @@ pub data Row : Type 0 where
   ofFrame : List ℕ → List ℕ → Verdict → List Outcome → Kept → Row
   -- the slots of a frame from other main data than its own
   ofMain : List ℕ → List ℕ → List Outcome → Row
-  -- the reorder at a rate: the first numbers of a short slot before it and after it
-  ofOrder : SampleRate → List ℤ → List ℤ → Row
+  -- the reorder at a rate: the first numbers of a slot of a shape before it and after it
+  ofOrder : SampleRate → Shape → List ℤ → List ℤ → Row
 
 -- a frame read from an empty reservoir, and one refused
 abbrev wholly : List ℕ → Outcome → Row
@@ -81,8 +88,8 @@ wholly s o = ofFrame s [] Accepted (o ∷ []) (keeping mainF)
 abbrev refusedFor : List ℕ → Refusal → Row
 refusedFor s r = ofFrame s [] (Refused r) [] untouched
 
-abbrev pub table : List Row
-table =
+abbrev plainTable : List Row
+plainTable =
     wholly frameF (read numbersF) ∷
     -- the first quad ends outside the slot and is dropped; so it is where only its codeword's first bits are there
     wholly (long 7) (read (negsuc 0 ∷ pos 0 ∷ [])) ∷
@@ -102,34 +109,101 @@ table =
     refusedFor (set frameF 1 0xF1) ReservedLayer ∷
     refusedFor (set frameF 1 0xF5) OtherLayer ∷
     ofFrame (reachingBack 1) [] (Refused ShortReservoir) [] (keeping mainF) ∷
-    ofOrder Hz44100
-    (pos 1 ∷ pos 2 ∷ pos 3 ∷ pos 4 ∷ pos 5 ∷ pos 6 ∷ pos 7 ∷ pos 8 ∷ pos 9 ∷ pos 10 ∷ pos 11 ∷ pos 12 ∷ [])
+    ofOrder Hz44100 AllShort (upFrom 1 12)
     (pos 1 ∷ pos 5 ∷ pos 9 ∷ pos 2 ∷ pos 6 ∷ pos 10 ∷ pos 3 ∷ pos 7 ∷ pos 11 ∷ pos 4 ∷ pos 8 ∷ pos 12 ∷ []) ∷
     []
+
+-- ---- and those of mixed blocks
+-- F's header with other side information and main data
+abbrev frameWith : List ℕ → List ℕ → List ℕ
+frameWith side main = 0xFF ∷ 0xF3 ∷ 0x14 ∷ 0xC0 ∷ (side ++ main)
+
+-- a frame of MPEG-1 at 48 kHz, of 32,000 bits a second and one channel
+abbrev frame1With : List ℕ → List ℕ → List ℕ
+frame1With side main = 0xFF ∷ 0xFB ∷ 0x14 ∷ 0xC0 ∷ (side ++ main)
+
+abbrev with : List ℕ → List ℕ → List Outcome → Row
+with s main os = ofFrame s [] Accepted os (keeping main)
+
+-- F's main data with another first byte
+abbrev mainBy : ℕ → List ℕ
+mainBy n = n ∷ replicate 10 0x00
+
+-- 19 pairs of which the first 18 are in table 0, where the tables change at 36; t is the byte of block_type and mixed_block_flag
+abbrev nineteen : ℕ → List ℕ
+nineteen t = 0x00 ∷ 0x00 ∷ 0x18 ∷ 0x4F ∷ 0x48 ∷ 0x01 ∷ t ∷ 0x08 ∷ 0x01 ∷ []
+
+-- 33 factors of 60 bits: six of one bit, and three times nine of two, three and one
+abbrev side33 : List ℕ
+side33 = 0x00 ∷ 0x01 ∷ 0xE0 ∷ 0x03 ∷ 0x48 ∷ 0xFB ∷ 0xA0 ∷ 0x00 ∷ 0x01 ∷ []
+
+abbrev main33 : List ℕ
+main33 = 0xA9 ∷ 0xB6 ∷ 0xDB ∷ 0x29 ∷ 0xCB ∷ 0xB8 ∷ 0x35 ∷ 0x50 ∷ 0x00 ∷ 0x00 ∷ 0x00 ∷ []
+
+-- MPEG-1: eight long factors and nine short ones of four bits, 1 to 15 and then 0 and 1, and eighteen of three
+abbrev side35 : List ℕ
+side35 = 0x00 ∷ 0x00 ∷ 0x01 ∷ 0xE8 ∷ 0x01 ∷ 0xA5 ∷ 0xFA ∷ 0x00 ∷ 0x00 ∷ 0x08 ∷ 0x00 ∷ 0x00 ∷ 0x34 ∷ 0x80 ∷ 0x00 ∷ 0x00 ∷ 0x01 ∷ []
+
+abbrev main35 : List ℕ
+main35 =
+    0x12 ∷ 0x34 ∷ 0x56 ∷ 0x78 ∷ 0x9A ∷ 0xBC ∷ 0xDE ∷ 0xF0 ∷ 0x14 ∷ 0xE5 ∷ 0xDC ∷ 0x14 ∷ 0xE5 ∷ 0xDC ∷ 0x14 ∷ 0xC0 ∷ replicate 59 0x00
+
+-- granule 0 has too few bits for its factors; granule 1 is mixed, and its sharing bits are set
+abbrev sideShared : List ℕ
+sideShared = 0x00 ∷ 0x03 ∷ 0xC0 ∷ 0x00 ∷ 0x01 ∷ 0xA4 ∷ 0x20 ∷ 0x00 ∷ 0x00 ∷ 0x08 ∷ 0x04 ∷ 0x00 ∷ 0x34 ∷ 0x83 ∷ 0x40 ∷ 0x00 ∷ 0x01 ∷ []
+
+abbrev mixedTable : List Row
+mixedTable =
+    wholly (set (set frameF 9 0x01) 10 0xA1) (read numbersF) ∷
+    with (frameWith (nineteen 0xA0) (mainBy 0x60)) (mainBy 0x60) (read (replicate 36 (pos 0) ++ negsuc 0 ∷ pos 0 ∷ []) ∷ []) ∷
+    -- a start block with the flag is read as without it: its first region ends at 54
+    with (frameWith (nineteen 0x60) (mainBy 0x60)) (mainBy 0x60) (read (replicate 38 (pos 0)) ∷ []) ∷
+    with (frameWith side33 main33) main33
+    (holds (1 ∷ 0 ∷ 1 ∷ 0 ∷ 1 ∷ replicate 17 0)
+    (replicate 9 0 ++ 1 ∷ 2 ∷ 3 ∷ 1 ∷ 2 ∷ 3 ∷ 1 ∷ 2 ∷ 3 ∷ 1 ∷ 2 ∷ 3 ∷ 4 ∷ 5 ∷ 6 ∷ 7 ∷ 0 ∷ 1 ∷ 1 ∷ 0 ∷ 1 ∷ 0 ∷ 1 ∷ 0 ∷ 1 ∷ 0 ∷ 1 ∷ 0 ∷ 0 ∷ 0 ∷ [])
+    [] ∷ []) ∷
+    with (frame1With side35 main35) main35
+    (holds (1 ∷ 2 ∷ 3 ∷ 4 ∷ 5 ∷ 6 ∷ 7 ∷ 8 ∷ replicate 14 0)
+    (replicate 9 0 ++ 9 ∷ 10 ∷ 11 ∷ 12 ∷ 13 ∷ 14 ∷ 15 ∷ 0 ∷ 1 ∷ 2 ∷ 3 ∷ 4 ∷ 5 ∷ 6 ∷ 7 ∷ 0 ∷ 1 ∷ 2 ∷ 3 ∷ 4 ∷ 5 ∷ 6 ∷ 7 ∷ 0 ∷ 1 ∷ 2 ∷ 3 ∷ 0 ∷ 0 ∷ 0 ∷ [])
+    [] ∷ read [] ∷ []) ∷
+    -- a mixed slot shares nothing, whatever its sharing bits
+    with (frame1With sideShared (replicate 75 0x00)) (replicate 75 0x00) (stopped FactorOverrun ∷ read (replicate 4 (pos 1)) ∷ []) ∷
+    -- at 8 kHz there is none
+    refusedFor (0xFF ∷ 0xE3 ∷ 0x18 ∷ 0xC0 ∷ 0x00 ∷ 0x00 ∷ 0x00 ∷ 0x03 ∷ 0x48 ∷ 0x01 ∷ 0xA0 ∷ 0x00 ∷ 0x01 ∷ replicate 59 0x00) MixedBlock ∷
+    ofOrder Hz44100 LongThenShort (upFrom 1 48)
+    (upFrom 1 36 ++ pos 37 ∷ pos 41 ∷ pos 45 ∷ pos 38 ∷ pos 42 ∷ pos 46 ∷ pos 39 ∷ pos 43 ∷ pos 47 ∷ pos 40 ∷ pos 44 ∷ pos 48 ∷ []) ∷
+    []
+
+abbrev pub table : List Row
+table = plainTable ++ mixedTable
 
 -- F's slot from other main data than its own
 unfoldable pub slotsBy : List ℕ → List ℕ → List Outcome
 unfolding step
 slotsBy s main = slotsOf (step s [] .header) (step s [] .info) main
 
-unfoldable pub ordered : SampleRate → List ℤ → List ℤ
-unfolding gathered orderOf orderFrom bandOrder shortRows shortStart
-ordered rate d = gathered (orderOf rate 0) d
+unfoldable pub ordered : SampleRate → Shape → List ℤ → List ℤ
+unfolding reorderedFrom gathered orderOf orderFrom bandOrder shortRows shortStart
+ordered rate k d = reorderedFrom rate (firstShort k) d
 
 -- a row is so
 abbrev pub IsSo : Row → Type 0
 IsSo (ofFrame s old v os k) = (step s old .verdict ≡ v) × (step s old .slots ≡ os) × (step s old .kept ≡ k)
 IsSo (ofMain s main os) = slotsBy s main ≡ os
-IsSo (ofOrder rate before after) = (rest : List ℤ) → take (length after) (ordered rate (before ++ rest)) ≡ after
+IsSo (ofOrder rate k before after) = (rest : List ℤ) → take (length after) (ordered rate k (before ++ rest)) ≡ after
 
 -- and all of them are
 abbrev pub AllSo : (Row → Type 0) → List Row → Type 0
 AllSo P [] = Unit {0}
 AllSo P (r ∷ rs) = P r × AllSo P rs
 
-pub starred : AllSo IsSo table
-unfolding step slotsBy ordered
-starred = (
+all-append : (P : Row → Type 0) (rs ss : List Row) → AllSo P rs → AllSo P ss → AllSo P (rs ++ ss)
+all-append P [] ss a b = b
+all-append P (r ∷ rs) ss a b = (a .0, all-append P rs ss (a .1) b)
+
+plain-so : AllSo IsSo plainTable
+unfolding step slotsBy ordered upFrom
+plain-so = (
   (refl, refl, refl),
   (
     (refl, refl, refl),
@@ -166,6 +240,22 @@ starred = (
     ),
   ),
 )
+
+mixed-so : AllSo IsSo mixedTable
+unfolding step ordered upFrom
+mixed-so = (
+  (refl, refl, refl),
+  (
+    (refl, refl, refl),
+    (
+      (refl, refl, refl),
+      ((refl, refl, refl), ((refl, refl, refl), ((refl, refl, refl), ((refl, refl, refl), (λ rest. refl, tt))))),
+    ),
+  ),
+)
+
+pub starred : AllSo IsSo table
+starred = all-append IsSo plainTable mixedTable plain-so mixed-so
 
 -- ---- the other rows: after the frame that was refused by 13
 pub then-begin-11 : step (reachingBack 11) mainF .slots ≡ read numbersF ∷ []

@@ -77,7 +77,6 @@ pub struct FrameHeader {
     pub emphasis: Emphasis,
 }
 
-// Mixed blocks are refused, so none is named.
 pub enum BlockType {
     Long,
     Start,
@@ -85,10 +84,12 @@ pub enum BlockType {
     End,
 }
 
-// Which bands a slot's factors and numbers are of: long ones, or short ones in three windows.
+// Which bands a slot's factors and numbers are of: long ones; short ones in three windows; or, in a mixed block, long ones up to number 36 and short
+// ones from there on.
 pub enum Shape {
     AllLong,
     AllShort,
+    LongThenShort,
 }
 
 // How a slot's bits hold its factors: four groups in turn, of so many factors, of so many bits each, or shared with granule 0.
@@ -105,6 +106,7 @@ pub struct SlotRecord {
     pub global_gain: u8,
     pub scalefac_compress: u16,
     pub block_type: BlockType, // Long where window_switching_flag is not set
+    pub mixed_block_flag: bool, // kept of start and end blocks too, where it says nothing
     pub subblock_gain: [f32; 3],
     pub table_select: [u8; 3],
     pub region0_count: u8,

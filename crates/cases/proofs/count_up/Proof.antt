@@ -6,9 +6,6 @@ use native.Mathlib.Omega.{arith}
 use borrow.Author.Needs.{needs}
 use Rattle.cases.proofs.count_up.Statement.{statement}
 use Rattle.cases.proofs.count_up.Tie as tie
-use Rattle.cases.proofs.count_up.Reads as reads
-use Rattle.cases.proofs.count_up.Lts as lts
-use Rattle.cases.proofs.one_more.Reads as one-more-reads
 
 abbrev Inv-loop : tie.InvT-loop
 Inv-loop numbers₀ i₀ numbers i = length numbers ≡ length numbers₀

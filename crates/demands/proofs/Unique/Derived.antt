@@ -12,6 +12,12 @@ use Rattle.derived.proofs.is_intensity.Reads as is-intensity
 use Rattle.derived.proofs.is_intensity.Kinds as is-intensity-kinds
 use Rattle.derived.proofs.shape_of.Reads as shape-of
 use Rattle.derived.proofs.shape_of.Kinds as shape-of-kinds
+use Rattle.derived.proofs.is_mixed.Reads as is-mixed
+use Rattle.derived.proofs.is_mixed.Kinds as is-mixed-kinds
+use Rattle.derived.proofs.may_share.Reads as may-share
+use Rattle.derived.proofs.may_share.Kinds as may-share-kinds
+use Rattle.derived.proofs.is_slow.Reads as is-slow
+use Rattle.derived.proofs.is_slow.Kinds as is-slow-kinds
 use Rattle.derived.proofs.header_size.Reads as header-size
 use Rattle.derived.proofs.header_size.Kinds as header-size-kinds
 use Rattle.derived.proofs.frame_length.Reads as frame-length
@@ -46,6 +52,15 @@ is-intensity-unique κs a x y s t p q = alike p q
 
 pub shape-of-unique : OneAnswer shape-of-kinds.ps shape-of-kinds.r shape-of.Post
 shape-of-unique κs a x y s t p q = alike p q
+
+pub is-mixed-unique : OneAnswer is-mixed-kinds.ps is-mixed-kinds.r is-mixed.Post
+is-mixed-unique κs a x y s t p q = alike p q
+
+pub may-share-unique : OneAnswer may-share-kinds.ps may-share-kinds.r may-share.Post
+may-share-unique κs a x y s t p q = alike p q
+
+pub is-slow-unique : OneAnswer is-slow-kinds.ps is-slow-kinds.r is-slow.Post
+is-slow-unique κs a x y s t p q = alike p q
 
 pub header-size-unique : OneAnswer header-size-kinds.ps header-size-kinds.r header-size.Post
 header-size-unique κs a x y s t p q = alike p q

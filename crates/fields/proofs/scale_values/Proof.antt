@@ -33,16 +33,20 @@ bit-of-requires c κs = search needs
 bit-of-requires-2 : tie.Need-bit-of-requires-2
 bit-of-requires-2 c κs = search needs
 
+bit-of-requires-3 : tie.Need-bit-of-requires-3
+bit-of-requires-3 c κs = search needs
+
 returns : tie.Need-returns
 unfolding scaleValues
 returns c =
     rw (
-      c .bit-of2 .ensures,
-      c .before .bit-of .ensures,
-      c .before .before .gain-number3 .ensures,
-      c .before .before .before .gain-number2 .ensures,
-      c .before .before .before .before .gain-number .ensures,
-      c .before .before .before .before .before .block-number .ensures,
+      c .bit-of3 .ensures,
+      c .before .bit-of2 .ensures,
+      c .before .before .bit-of .ensures,
+      c .before .before .before .gain-number3 .ensures,
+      c .before .before .before .before .gain-number2 .ensures,
+      c .before .before .before .before .before .gain-number .ensures,
+      c .before .before .before .before .before .before .block-number .ensures,
     ) refl
 
 pub scale-values-spec : {M : Type 1} → statement M
@@ -58,4 +62,5 @@ scale-values-spec =
     gain-number-requires-3
     bit-of-requires
     bit-of-requires-2
+    bit-of-requires-3
     returns)

@@ -19,8 +19,14 @@ long-regions-requires c κs = search needs
 enum-told-2 : tie.Need-enum-told-2
 enum-told-2 c = search needs
 
-cast-t6 : tie.Need-cast-t6
-cast-t6 c = search needs
+window-regions-requires : tie.Need-window-regions-requires
+window-regions-requires c κs = search needs
+
+enum-told-3 : tie.Need-enum-told-3
+enum-told-3 c = search needs
+
+window-regions-requires-2 : tie.Need-window-regions-requires-2
+window-regions-requires-2 c κs = search needs
 
 returns : tie.Need-returns
 returns c =
@@ -31,10 +37,28 @@ returns c =
 returns-2 : tie.Need-returns-2
 unfolding regionsBy
 returns-2 c =
-    let a = c .before .before .before .args in
-    ap (λ (k : Shape). regionsBy k (a .rate) (a .r)) (sym (c .enum-told2 .given .1) ∙ c .before .before .shape-of .ensures)
+    let a = c .before .before .before .before .args in
+    c .window-regions .ensures
+    ∙ ap (λ (k : Shape). regionsBy k (a .rate) (a .r)) (sym (c .before .enum-told2 .given .1) ∙ c .before .before .before .shape-of .ensures)
+
+returns-3 : tie.Need-returns-3
+unfolding regionsBy
+returns-3 c =
+    let a = c .before .before .before .before .args in
+    c .window-regions2 .ensures
+    ∙ ap (λ (k : Shape). regionsBy k (a .rate) (a .r)) (sym (c .before .enum-told3 .given .1) ∙ c .before .before .before .shape-of .ensures)
 
 pub regions-of-spec : {M : Type 1} → statement M
 regions-of-spec =
     tie.close
-    (tie.spec shape-of-requires enum-told long-regions-requires enum-told-2 cast-t6 returns returns-2)
+    (tie.spec
+    shape-of-requires
+    enum-told
+    long-regions-requires
+    enum-told-2
+    window-regions-requires
+    enum-told-3
+    window-regions-requires-2
+    returns
+    returns-2
+    returns-3)

@@ -1,12 +1,11 @@
 -- `reorder::reorder` meets its contract: its tests are the definition's, and the numbers of its short bands are reordered from the first on.
 -- Assumes nothing.
-use mathlib.Core.Path.{_≡_, sym, ap, _∙_}
+use mathlib.Core.Path.{sym, ap, _∙_}
 use mathlib.Core.Bool.{Bool, _&&_}
-use Prim.Native.Nat.{ℕ, _≤_}
+use Prim.Native.Nat.{ℕ}
 use native.Mathlib.Omega.{arith}
 use denote.Ref.{now}
-use Rattle.standard.specs.Header.{isMpeg1}
-use Rattle.standard.specs.Record.{isRecord}
+use Rattle.standard.specs.SideInfo.{isRecordUnder}
 use Rattle.standard.specs.Told.{told}
 use Rattle.standard.specs.RefusalsLaws.{answers-refused, answers-told}
 use Rattle.standard.specs.Reorder.{firstShort, reorderedFrom}
@@ -14,13 +13,6 @@ use Rattle.standard.specs.ReorderLaws.{few-numbers, made-up, in-order, first-le
 use borrow.Author.Needs.{needs}
 use Rattle.reorder.proofs.reorder.Statement.{statement}
 use Rattle.reorder.proofs.reorder.Tie as tie
-use Rattle.reorder.proofs.reorder.Reads as reads
-use Rattle.reorder.proofs.reorder.Lts as lts
-use Rattle.header.proofs.is_header.Reads as is-header-reads
-use Rattle.record_check.proofs.is_record.Reads as is-record-reads
-use Rattle.reorder.proofs.first_short.Reads as first-short-reads
-use Rattle.reorder.proofs.reorder_from.Reads as reorder-from-reads
-use Rattle.derived.proofs.shape_of.Reads as shape-of-reads
 
 returns : tie.Need-returns
 returns c = answers-refused (few-numbers _ _ _ (c .if1 .taken))
@@ -63,13 +55,13 @@ returns-3 c =
     let header = sym (c .before .before .before .is-header .ensures) ∙ c .before .before .if2 .taken in
     let slot = sym (c .before .is-record .ensures) ∙ c .if3 .left in
     answers-refused
-    (made-up _ _ _ (c .before .before .before .before .if1 .left) (ap (λ (x : Bool). x && isRecord (isMpeg1 (a .h .version)) (a .r)) header ∙ slot))
+    (made-up _ _ _ (c .before .before .before .before .if1 .left) (ap (λ (x : Bool). x && isRecordUnder (a .h) (a .r)) header ∙ slot))
 
 returns-4 : tie.Need-returns-4
 returns-4 c =
     let a = c .before .before .before .args in
     let header = sym (c .before .is-header .ensures) ∙ c .if2 .left in
-    answers-refused (made-up _ _ _ (c .before .before .if1 .left) (ap (λ (x : Bool). x && isRecord (isMpeg1 (a .h .version)) (a .r)) header))
+    answers-refused (made-up _ _ _ (c .before .before .if1 .left) (ap (λ (x : Bool). x && isRecordUnder (a .h) (a .r)) header))
 
 pub reorder-spec : {M : Type 1} → statement M
 reorder-spec =

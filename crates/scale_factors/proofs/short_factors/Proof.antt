@@ -1,14 +1,15 @@
--- `scale_factors::short_factors` meets its contract: by its shape; laid out in bands and flat again, the factors are the same. Assumes nothing.
-use mathlib.Core.Path.{_≡_, sym, ap, _∙_}
+-- `scale_factors::short_factors` meets its contract: where there are none all is zeros; laid out in bands and flat again, the factors are the same.
+-- Assumes nothing.
+use mathlib.Core.Path.{_≡_, refl, sym, _∙_}
 use mathlib.Core.Bool.{false}
 use mathlib.Core.List.{List, _++_}
 use Prim.Native.Nat.{ℕ, _+_, _-_, _≤_}
 use native.Mathlib.Omega.{arith}
 use lib.ListN.{length, take, drop, replicate}
-use Rattle.standard.specs.Factors.{bandsOf, shortCount, shortFrom}
+use Rattle.standard.specs.Factors.{shortCount, shortFrom}
 use Rattle.standard.specs.FactorsLaws.{room}
 use Rattle.standard.specs.declared.Shape.{Shape}
-use Rattle.scale_factors.specs.Flat.{flatOf}
+use Rattle.standard.specs.declared.Shape.the-variants.{AllLong, AllShort, LongThenShort}
 use Rattle.scale_factors.proofs.Plans.{bands-back}
 use borrow.Author.Needs.{needs}
 use Rattle.scale_factors.proofs.short_factors.Statement.{statement}
@@ -21,11 +22,10 @@ places fs n c from = replicate from 0 ++ take c (drop n fs) ++ replicate (39 - (
 short-near : (k : Shape) → shortFrom k + shortCount k ≤ 36
 short-near k = room false k .1
 
-enum-told : tie.Need-enum-told
-enum-told c = search needs
-
-enum-told-2 : tie.Need-enum-told-2
-enum-told-2 c = search needs
+none-short : (fs : List ℕ) (n : ℕ) (k : Shape) → shortCount k ≡ 0 → replicate 39 0 ≡ places fs n (shortCount k) (shortFrom k)
+none-short fs n AllLong e = refl
+none-short fs n AllShort e = absurd (omega arith)
+none-short fs n LongThenShort e = absurd (omega arith)
 
 short-count-requires : tie.Need-short-count-requires
 short-count-requires c κs = search needs
@@ -38,8 +38,8 @@ short-from-requires c κs = search needs
 
 short-places-requires : tie.Need-short-places-requires
 short-places-requires c κs =
-    let start = c .before .before .before .before in
-    let count = c .before .short-count .ensures in
+    let start = c .before .before .before in
+    let count = c .before .before .short-count .ensures in
     let from = c .short-from .ensures in
     (omega arith, omega (arith, count, start .pre), omega (arith, count, from, start .pre, short-near (start .args .shape)))
 
@@ -47,31 +47,32 @@ flat-requires : tie.Need-flat-requires
 flat-requires c κs = search needs
 
 returns : tie.Need-returns
-returns c = let a = c .before .before .args in ap (λ (k : Shape). places (a .fs) (a .n) (shortCount k) (shortFrom k)) (sym (c .enum-told .given .1))
+returns c =
+    let a = c .before .before .args in
+    none-short (a .fs) (a .n) (a .shape) (sym (c .before .short-count .ensures) ∙ c .if1 .taken)
 
 returns-2 : tie.Need-returns-2
 returns-2 c =
-    let start = c .before .before .before .before .before .before in
+    let counted = c .before .before .before .before in
+    let start = counted .before in
     let a = start .args in
-    let count = c .before .before .before .short-count .ensures in
+    let count = counted .short-count .ensures in
     let from = c .before .before .short-from .ensures in
     let many : length (a .fs) ≡ 36 = search needs in
     c .flat .ensures
-    ∙ ap flatOf (c .before .short-places .ensures)
-    ∙ bands-back (a .fs) (a .n) (c .before .before .before .short-count .result) (c .before .before .short-from .result) many
+    ∙ bands-back (a .fs) (a .n) (counted .short-count .result) (c .before .before .short-from .result) many
     (omega (arith, count, start .pre)) (omega (arith, count, from, start .pre, short-near (a .shape)))
+    (c .before .short-places .ensures)
     ∙ (λ j. places (a .fs) (a .n) (count j) (from j))
 
 pub short-factors-spec : {M : Type 1} → statement M
 short-factors-spec =
     tie.close
     (tie.spec
-    enum-told
-    enum-told-2
     short-count-requires
+    returns
     add-short-places
     short-from-requires
     short-places-requires
     flat-requires
-    returns
     returns-2)

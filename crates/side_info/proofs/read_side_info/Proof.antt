@@ -28,17 +28,22 @@ is-mpeg1-requires c κs = search needs
 is-two-requires : tie.Need-is-two-requires
 is-two-requires c κs = search needs
 
+is-slow-requires : tie.Need-is-slow-requires
+is-slow-requires c κs = search needs
+
 read-after-requires : tie.Need-read-after-requires
-read-after-requires c κs = header-small _ (c .before .before .header-size .ensures)
+read-after-requires c κs = header-small _ (c .before .before .before .header-size .ensures)
 
 returns-2 : tie.Need-returns-2
 returns-2 c =
-    let f = c .before .before .before in
+    let t = c .before .before in
+    let m = t .before in
+    let f = m .before in
     let d = f .before .before in
     let a = d .before .before .args in
     rw
     (side-under (a .h) (now (a .frame)) (d .is-header .ensures) (not-false _ (f .before .if1 .left)) (f .header-size .ensures)
-    (c .before .before .is-mpeg1 .ensures) (c .before .is-two .ensures))
+    (m .is-mpeg1 .ensures) (t .is-two .ensures) (c .before .is-slow .ensures))
     (c .read-after .ensures)
 
 pub read-side-info-spec : {M : Type 1} → statement M
@@ -51,5 +56,6 @@ read-side-info-spec =
     header-size-requires
     is-mpeg1-requires
     is-two-requires
+    is-slow-requires
     read-after-requires
     returns-2)

@@ -6,10 +6,6 @@ use native.Mathlib.Omega.{arith}
 use borrow.Author.Needs.{needs}
 use Rattle.cases.proofs.words.bytes_from.Statement.{statement}
 use Rattle.cases.proofs.words.bytes_from.Tie as tie
-use Rattle.cases.proofs.words.bytes_from.Reads as reads
-use Rattle.cases.proofs.words.bytes_from.Lts as lts
-use Rattle.cases.proofs.words.hex_pair.Reads as hex-pair-reads
-use Rattle.lent_bytes.proofs.put.Reads as put-reads
 
 abbrev Inv-loop : tie.InvT-loop
 Inv-loop text from bytes₀ at₀ n₀ bytes at n = length bytes ≡ length bytes₀

@@ -5,9 +5,6 @@ use native.Mathlib.Omega.{arith}
 use borrow.Author.Needs.{needs}
 use Rattle.cases.proofs.words.digit_place.Statement.{statement}
 use Rattle.cases.proofs.words.digit_place.Tie as tie
-use Rattle.cases.proofs.words.digit_place.Reads as reads
-use Rattle.cases.proofs.words.digit_place.Lts as lts
-use Rattle.cases.proofs.words.is_digit.Reads as is-digit-reads
 
 abbrev Inv-loop : tie.InvT-loop
 Inv-loop text from at₀ at = Unit {0}

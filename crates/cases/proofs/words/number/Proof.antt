@@ -5,11 +5,6 @@ use native.Mathlib.Omega.{arith}
 use borrow.Author.Needs.{needs}
 use Rattle.cases.proofs.words.number.Statement.{statement}
 use Rattle.cases.proofs.words.number.Tie as tie
-use Rattle.cases.proofs.words.number.Reads as reads
-use Rattle.cases.proofs.words.number.Lts as lts
-use Rattle.cases.proofs.words.digit_place.Reads as digit-place-reads
-use Rattle.cases.proofs.words.is_digit.Reads as is-digit-reads
-use Rattle.cases.proofs.words.with_digit.Reads as with-digit-reads
 
 abbrev Inv-loop : tie.InvT-loop
 Inv-loop text from at₀ value₀ at value = Unit {0}

@@ -5,8 +5,6 @@ use native.Mathlib.Omega.{arith}
 use borrow.Author.Needs.{needs}
 use Rattle.cases.proofs.words.place_of.Statement.{statement}
 use Rattle.cases.proofs.words.place_of.Tie as tie
-use Rattle.cases.proofs.words.place_of.Reads as reads
-use Rattle.cases.proofs.words.place_of.Lts as lts
 
 abbrev Inv-loop : tie.InvT-loop
 Inv-loop text from c at₀ at = from ≤ at

@@ -10,6 +10,9 @@ use Rattle.record_check.proofs.checks.fits_record.Tie as tie
 is-head-requires : tie.Need-is-head-requires
 is-head-requires c κs = search needs
 
+is-unmixed-requires : tie.Need-is-unmixed-requires
+is-unmixed-requires c κs = search needs
+
 is-long-requires : tie.Need-is-long-requires
 is-long-requires c κs = search needs
 
@@ -20,7 +23,7 @@ returns : tie.Need-returns
 unfolding isRecord
 returns c =
     let d = c .before .before in
-    let r = d .before .before .args .r in
+    let r = d .before .before .before .args .r in
     let e = picked {x = isLongBody r} (isSwitchedBody r) (sym (d .is-long .ensures) ∙ c .before .if1 .taken) in
     cc
 
@@ -31,7 +34,7 @@ returns-2 : tie.Need-returns-2
 unfolding isRecord
 returns-2 c =
     let d = c .before .before in
-    let r = d .before .before .args .r in
+    let r = d .before .before .before .args .r in
     let e = passed (isLongBody r) {y = isSwitchedBody r} (sym (d .is-long .ensures) ∙ c .before .if1 .left) in
     cc
 
@@ -40,6 +43,7 @@ fits-record-spec =
     tie.close
     (tie.spec
     is-head-requires
+    is-unmixed-requires
     is-long-requires
     is-long-body-requires
     returns

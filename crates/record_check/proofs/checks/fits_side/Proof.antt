@@ -26,7 +26,7 @@ returns c =
     let b = c .before .before in
     let l = b .before .before .before .before in
     let a = l .before .args in
-    side-is (a .mpeg1) (a .two) (a .i) (l .layout-of .ensures .same) (omega (arith, l .layout-of .ensures .begin-few)) (b .before .no-shares .ensures)
+    side-is (a .mpeg1) (a .two) (a .slow) (a .i) (l .layout-of .ensures .same) (omega (arith, l .layout-of .ensures .begin-few)) (b .before .no-shares .ensures)
     (b .slots-fit .ensures)
 
 pub fits-side-spec : {M : Type 1} → statement M

@@ -18,7 +18,7 @@ returns : tie.Need-returns
 unfolding isAbsent noHead noBody noTail
 returns c =
     let d = c .before .before .before .before .before in
-    rw (d .tables-below .ensures, d .before .gains-below .ensures, d .before .before .is-long .ensures)
+    rw (d .tables-below .ensures, d .before .gains-below .ensures, d .before .before .before .is-long .ensures)
 
 pub is-absent-spec : {M : Type 1} → statement M
 is-absent-spec =

@@ -13,7 +13,7 @@ gains-below-requires c κs = search needs
 
 returns : tie.Need-returns
 unfolding isLongBody
-returns c = rw (c .before .before .before .tables-below .ensures, c .before .before .gains-below .ensures)
+returns c = rw (c .before .before .before .before .tables-below .ensures, c .before .before .before .gains-below .ensures)
 
 pub is-long-body-spec : {M : Type 1} → statement M
 is-long-body-spec = tie.close (tie.spec tables-below-requires gains-below-requires returns)

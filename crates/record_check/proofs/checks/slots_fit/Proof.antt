@@ -12,10 +12,10 @@ use Rattle.record_check.proofs.checks.slots_fit.Statement.{statement}
 use Rattle.record_check.proofs.checks.slots_fit.Tie as tie
 
 abbrev Inv-loop : tie.InvT-loop
-Inv-loop mpeg1 n s i₀ i = All (slotsFrom mpeg1 n) s i
+Inv-loop mpeg1 slow n s i₀ i = All (slotsFrom mpeg1 slow n) s i
 
 abbrev μ-loop : tie.MeasureT-loop
-μ-loop mpeg1 n s i₀ i = 4 - i
+μ-loop mpeg1 slow n s i₀ i = 4 - i
 
 loop-holds : tie.Need-loop-holds Inv-loop μ-loop
 loop-holds c = all-begin _ _
@@ -33,10 +33,11 @@ returns : tie.Need-returns Inv-loop μ-loop
 returns c =
     let d = c .before .before .before .before in
     let a = d .before .args in
-    let l : length (a .t3) ≡ 4 = search needs in
-    let h : d .loop .i < length (a .t3) = omega arith in
-    sym (all-stop (slotsFrom (a .mpeg1) (a .n)) (slotTest (a .mpeg1) (a .n)) (slots-step (a .mpeg1) (a .n)) pastRecord (d .loop .inv) h
-    (sym (c .before .slot-fits .ensures) ∙ not-true _ (c .if1 .taken))) ∙ slots-are (a .mpeg1) (a .n) (a .t3) l
+    let l : length (a .t4) ≡ 4 = search needs in
+    let h : d .loop .i < length (a .t4) = omega arith in
+    sym (all-stop (slotsFrom (a .mpeg1) (a .slow) (a .n)) (slotTest (a .mpeg1) (a .slow) (a .n)) (slots-step (a .mpeg1) (a .slow) (a .n)) pastRecord
+    (d .loop .inv) h
+    (sym (c .before .slot-fits .ensures) ∙ not-true _ (c .if1 .taken))) ∙ slots-are (a .mpeg1) (a .slow) (a .n) (a .t4) l
 
 add-i : tie.Need-add-i Inv-loop μ-loop
 add-i c = search needs
@@ -48,20 +49,21 @@ loop-again : tie.Need-loop-again Inv-loop μ-loop
 loop-again c =
     let d = c .before .before .before .before in
     let a = d .before .args in
-    let l : length (a .t3) ≡ 4 = search needs in
-    let h : d .loop .i < length (a .t3) = omega arith in
-    all-turn (slotsFrom (a .mpeg1) (a .n)) (slotTest (a .mpeg1) (a .n)) (slots-step (a .mpeg1) (a .n)) pastRecord (d .loop .inv) h
+    let l : length (a .t4) ≡ 4 = search needs in
+    let h : d .loop .i < length (a .t4) = omega arith in
+    all-turn (slotsFrom (a .mpeg1) (a .slow) (a .n)) (slotTest (a .mpeg1) (a .slow) (a .n)) (slots-step (a .mpeg1) (a .slow) (a .n)) pastRecord (d .loop .inv) h
     (sym (c .before .slot-fits .ensures) ∙ not-false _ (c .if1 .left))
 
 returns-2 : tie.Need-returns-2 Inv-loop μ-loop
 returns-2 c =
     let d = c .before in
     let a = d .before .args in
-    let l : length (a .t3) ≡ 4 = search needs in
-    let h : length (a .t3) ≤ d .loop .i = omega arith in
-    let k : a .n ≤ length (a .t3) = omega arith in
-    sym (all-end (slotsFrom (a .mpeg1) (a .n)) (slotTest (a .mpeg1) (a .n)) (slots-step (a .mpeg1) (a .n)) pastRecord (d .loop .inv) h
-    (slots-none (a .mpeg1) (a .n) (length (a .t3)) k)) ∙ slots-are (a .mpeg1) (a .n) (a .t3) l
+    let l : length (a .t4) ≡ 4 = search needs in
+    let h : length (a .t4) ≤ d .loop .i = omega arith in
+    let k : a .n ≤ length (a .t4) = omega arith in
+    sym (all-end (slotsFrom (a .mpeg1) (a .slow) (a .n)) (slotTest (a .mpeg1) (a .slow) (a .n)) (slots-step (a .mpeg1) (a .slow) (a .n)) pastRecord
+    (d .loop .inv) h
+    (slots-none (a .mpeg1) (a .slow) (a .n) (length (a .t4)) k)) ∙ slots-are (a .mpeg1) (a .slow) (a .n) (a .t4) l
 
 pub slots-fit-spec : {M : Type 1} → statement M
 slots-fit-spec =

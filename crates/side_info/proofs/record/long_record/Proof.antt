@@ -1,6 +1,7 @@
 -- `side_info::record::long_record` meets its contract: each field is cut out of the window's bits at its place, and what is not read is 0.
 -- Assumes nothing.
 use mathlib.Core.Path.{refl}
+use mathlib.Core.Bool.{false}
 use mathlib.Core.List.{[], _∷_}
 use borrow.Author.Needs.{needs}
 use Rattle.standard.specs.Record.{longOf}
@@ -36,6 +37,7 @@ returns c =
       «global_gain» = k .«global_gain»;
       «scalefac_compress» = k .«scalefac_compress»;
       «block_type» = Long;
+      «mixed_block_flag» = false;
       «subblock_gain» = zero-gain j ∷ zero-gain j ∷ zero-gain j ∷ [];
       «table_select» = window-cut e 1 5 17 refl j ∷ window-cut e 6 5 12 refl j ∷ window-cut e 11 5 7 refl j ∷ [];
       «region0_count» = window-cut e 16 4 3 refl j;

@@ -40,7 +40,7 @@ returns c =
     let a = k .before .before .args in
     let window = w .word .ensures ∙ ap (λ (n : ℕ). fieldAt (now (a .s)) (a .at + 29 + n) 23) (w .before .compress-width .ensures) in
     let parts : PartsAt (a .mpeg1) (now (a .s)) (a .at) _ _ = record { common = k .read-common .ensures; window = window } in
-    record { verdict = v .verdict-of .ensures _ _ _ _ parts refl; value = λ x f. c .slot-of .ensures _ _ _ x parts f }
+    record { verdict = v .verdict-of .ensures _ _ _ _ parts refl; value = λ x f. c .slot-of .ensures _ _ _ _ x parts f }
 
 pub read-record-spec : {M : Type 1} → statement M
 read-record-spec =

@@ -27,7 +27,7 @@ returns c =
     let l = o .before .before in
     let a = l .before .before .args in
     c .no-side .ensures _
-    (side-short (a .mpeg1) (a .two) (a .from) (a .frame .now) (l .layout-of .ensures .same) (o .if1 .taken)
+    (side-short (a .mpeg1) (a .two) (a .slow) (a .from) (a .frame .now) (l .layout-of .ensures .same) (o .if1 .taken)
     ∙ sym (ap (λ (n : ℕ). refused (AbsentBytes n)) (c .before .absent-from .ensures)))
 
 mul-read-bits : tie.Need-mul-read-bits
@@ -40,7 +40,7 @@ returns-2 : tie.Need-returns-2
 returns-2 c =
     let l = c .before .before .before in
     let a = l .before .before .args in
-    rw (side-whole (a .mpeg1) (a .two) (a .from) (a .frame .now) (l .layout-of .ensures .same) (c .before .if1 .left)) (c .read-bits .ensures)
+    rw (side-whole (a .mpeg1) (a .two) (a .slow) (a .from) (a .frame .now) (l .layout-of .ensures .same) (c .before .if1 .left)) (c .read-bits .ensures)
 
 pub read-after-spec : {M : Type 1} → statement M
 read-after-spec =

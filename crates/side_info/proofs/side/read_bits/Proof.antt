@@ -49,12 +49,12 @@ returns : tie.Need-returns
 returns c =
     let r = c .before .before .before .before in
     c .no-side .ensures _
-    (side-refused _ _ _ _ (r .before .before .before .layout-of .ensures .same) (r .read-records .ensures) (c .before .before .v .given .1))
+    (side-refused _ _ _ _ _ (r .before .before .before .layout-of .ensures .same) (r .read-records .ensures) (c .before .before .v .given .1))
 
 returns-2 : tie.Need-returns-2
 returns-2 c =
     let r = c .before .before .before .before .before .before in
-    let told-here = side-told _ _ _ _ (r .before .before .before .layout-of .ensures .same) (r .read-records .ensures)
+    let told-here = side-told _ _ _ _ _ (r .before .before .before .layout-of .ensures .same) (r .read-records .ensures)
     (c .before .before .before .before .enum-told .given .1) in
     rw (c .before .before .before .before .enum-told .given .1, c .before .before .before .word .ensures, c .before .read-shares .ensures)
     (answers-told told-here)

@@ -10,10 +10,10 @@ use Rattle.side_info.proofs.slot_records.read_records.Statement.{statem
 use Rattle.side_info.proofs.slot_records.read_records.Tie as tie
 
 abbrev Inv-loop : tie.InvT-loop
-Inv-loop s start n mpeg1 w slots₀ at₀ i₀ slots at i = RecordsLoop mpeg1 n s start slots at i
+Inv-loop s start n mpeg1 slow w slots₀ at₀ i₀ slots at i = RecordsLoop mpeg1 slow n s start slots at i
 
 abbrev μ-loop : tie.MeasureT-loop
-μ-loop s start n mpeg1 w slots₀ at₀ i₀ slots at i = n - i
+μ-loop s start n mpeg1 slow w slots₀ at₀ i₀ slots at i = n - i
 
 record-width-requires : tie.Need-record-width-requires Inv-loop μ-loop
 record-width-requires c κs = search needs
@@ -22,7 +22,7 @@ absent-record-requires : tie.Need-absent-record-requires Inv-loop μ-loop
 absent-record-requires c κs = search needs
 
 loop-holds : tie.Need-loop-holds Inv-loop μ-loop
-loop-holds c = rw (c .absent-record .ensures) (records-begin _ _ _ _)
+loop-holds c = rw (c .absent-record .ensures) (records-begin _ _ _ _ _)
 
 read-record-requires : tie.Need-read-record-requires Inv-loop μ-loop
 read-record-requires c κs = let d = c .before in omega (arith, d .loop .inv .place, d .loop .inv .some, d .before .before .before .before .pre)
