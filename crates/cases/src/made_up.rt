@@ -12,7 +12,7 @@ use standard::SampleRate;
 use standard::SideInfo;
 use standard::SlotRecord;
 
-// No record has more fields.
+// A line names no more fields.
 const FIELDS: usize = 16;
 
 pub(crate) fn header_in(frame: &[u8]) -> FrameHeader {

@@ -16,12 +16,11 @@ use Rattle.standard.specs.RefusalsLaws.{unlike, answers-told}
 use Rattle.standard.specs.Written.{Bytes}
 use Rattle.standard.specs.Header.{headerOf, isHeader, isMpeg1, isSlow, granules, channelCount}
 use Rattle.standard.specs.HeaderBytes.{header-read, header-known}
-use Rattle.standard.specs.Record.{absent, shapeOf, isMixed, isRecord}
+use Rattle.standard.specs.Record.{absent, shapeOf, isMixed}
 use Rattle.standard.specs.SideInfo.{sideOf}
 use Rattle.standard.specs.SideBytes.{side-read, slot-read}
-use Rattle.standard.specs.SideLaws as record-laws
+use Rattle.standard.specs.RecordBits as record-laws
 use Rattle.standard.specs.declared.FrameHeader.{FrameHeader}
-use Rattle.standard.specs.declared.SampleRate.{SampleRate}
 use Rattle.standard.specs.declared.SampleRate.the-variants.{Hz8000}
 use Rattle.standard.specs.declared.BlockType.the-variants.{Long}
 use Rattle.standard.specs.declared.SideInfo.{SideInfo}
@@ -104,5 +103,4 @@ long-unflagged c e = record-laws.long-unflagged (isMpeg1 (c .args .0 .version)) 
 
 pub slow-unmixed : (c : IsRecordCall) → c .answer ≡ true → c .args .0 .rate ≡ Hz8000 → isMixed (shapeOf (c .args .1 .0)) ≡ false
 slow-unmixed c e f =
-    record-laws.slow-unmixed (isMpeg1 (c .args .0 .version)) (c .args .1 .0)
-    (sym (ap (λ (x : SampleRate). isRecord (isMpeg1 (c .args .0 .version)) (isSlow x) (c .args .1 .0)) f) ∙ sym (c .promised) ∙ e)
+    record-laws.slow-unmixed (isMpeg1 (c .args .0 .version)) (isSlow (c .args .0 .rate)) (c .args .1 .0) (sym (c .promised) ∙ e) (ap isSlow f)

@@ -167,7 +167,8 @@ pub lengths-small : (mpeg1 intensity : Bool) (shares : List Bool) (k : Shape) (c
 unfolding planBy lowLengths
 lengths-small true intensity shares AllLong c = let w = slen-small c in small-four (w .0) (w .0) (w .1) (w .1)
 lengths-small true intensity shares AllShort c = let w = slen-small c in small-four (w .0) (w .1) (omega arith) (omega arith)
-lengths-small true intensity shares LongThenShort c = let w = slen-small c in small-four (w .0) (w .0) (w .1) (omega arith)
+lengths-small true intensity shares LongThenShort c =
+    let w = slen-small c in small-four (omega (arith, w)) (omega (arith, w)) (omega (arith, w)) (omega arith)
 lengths-small false false shares k c = ordinary-small (c % 512) (omega arith)
 lengths-small false true shares k c = intensity-small (c % 512 / 2) (omega arith)
 

@@ -445,3 +445,17 @@ switched-regions mpeg1 slow r e t =
       λ s. (k .2 ∙ ap region0Of s, k .3 ∙ ap region1Of s),
       λ s. (k .2 ∙ ap region0Of s, k .3 ∙ ap region1Of s),
     )
+
+-- ---- mixed_block_flag: a record whose window is not switched has it not, and at 8 kHz none is that of a mixed short block
+module _ (mpeg1 slow : Bool) (r : SlotRecord) (e : isRecord mpeg1 slow r ≡ true) where
+  pub long-unflagged : r .«block_type» ≡ Long → r .«mixed_block_flag» ≡ false
+  unfolding isRecord
+  long-unflagged f =
+      let t = ap isLong f in
+      long-body r t (sym (picked (isSwitchedBody r) t) ∙ both-of (isHead mpeg1 r && isUnmixed slow r) _ e .1) .4
+
+  pub slow-unmixed : slow ≡ true → isMixed (shapeOf r) ≡ false
+  unfolding isRecord
+  slow-unmixed f =
+      let unmixed = both-of (isHead mpeg1 r) (isUnmixed slow r) (both-of (isHead mpeg1 r && isUnmixed slow r) _ e .0) .1 in
+      not-true _ (sym (ap (λ (x : Bool). isUnmixed x r) f) ∙ unmixed)
