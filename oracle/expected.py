@@ -11,7 +11,6 @@ SIDE = {'input ended': 2, 'big_values > 288': 10, 'Forbidden block type': 11}
 MIXED = 'assertion failed: !mixed_block || info.block_type == BlockType::Short'
 OVERFLOW = 'attempt to subtract with overflow'
 ENDED = 'input ended'
-NO_BAND = 'index out of bounds: the len is 23 but the index is '
 
 SHORT = 2  # the block type
 GROUPS = ((0, 6), (6, 11), (11, 16), (16, 21))
@@ -34,10 +33,12 @@ def numbers(line):
 
 
 class Slot:
-    """One slot as the Rust read it: alone (with the bits that it used) or in the whole."""
+    """One slot as the Rust read it: alone (with the bits that it used) or in the whole. off: it stopped at regions that run off the end, and was read
+    without the third one."""
 
     def __init__(self, first):
-        self.first = first
+        self.off = first.startswith('off ')
+        self.first = first[4:] if self.off else first
         self.rows = {}
 
     def row(self, word):
@@ -109,7 +110,7 @@ def reordered(f, mine):
 
 def refusal(f, k, start, told):
     """The number that a slot is refused by, or None: the order of docs/REFUSALS.md."""
-    length, pairs, block, region0, region1 = (f.records[k][i] for i in (0, 1, 4, 12, 13))
+    length, pairs = f.records[k][:2]
     mine = f.alone[k]
     words = mine.first.split(' ')
     if 8 * f.reservoir < start + length:
@@ -120,9 +121,6 @@ def refusal(f, k, start, told):
         return 22
     if words[2] == 'panic':
         why = ' '.join(words[3:])
-        if why == NO_BAND + str(region0 + region1 + 2):
-            need(block == 0 and region0 + region1 > 20, 'no band: ' + str(f.records[k]))
-            return 23
         need(why == OVERFLOW and pairs == 1 and int(words[1]) > length, 'stopped: ' + mine.first)
         return 24
     need(words[2] == 'count', 'a slot alone: ' + mine.first)
@@ -188,11 +186,11 @@ def whole(f, told):
         length, start = f.records[k][0], told[k]['start']
         if late and told[k]['refused'] == 24:
             continue
-        if told[k]['refused'] == 20 or words[0] == 'factors' or words[2] == 'panic':
+        if told[k]['refused'] == 20 or words[0] == 'factors' or mine.off or words[2] == 'panic':
             need(f.failure, 'the Rust read a slot that is lacking or damaged')
             past = told[k]['refused'] == 20 or start + int(words[1]) > bits
             need(late or past or f.failure[0] == 'panic', 'the Rust fails in another way')
-            entries.add(3 if told[k]['refused'] == 24 else 8)
+            entries.add(8 if told[k]['refused'] in (20, 21) else 14 if mine.off else 3 if told[k]['refused'] == 24 else 8)
             return entries | ({2} if late else set())
         if late:
             continue
@@ -214,6 +212,8 @@ def entries_of(f, told):
     entries = whole(f, told)
     for k in sorted(told):
         t, mine = told[k], f.alone[k]
+        if mine.off:
+            entries.add(14)
         if t['refused'] == 24:
             entries.add(3)
         elif t['refused'] == 22:

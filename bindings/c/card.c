@@ -41,7 +41,6 @@ static const char *name_of(unsigned refusal) {
     case FRONT_END_MISSING_BITS: return "bits are missing";
     case FRONT_END_FACTOR_OVERRUN: return "factors too long";
     case FRONT_END_LOST_SHARE: return "shares with a lost slot";
-    case FRONT_END_REGION_OVERRUN: return "regions too long";
     case FRONT_END_PAIR_OVERRUN: return "a pair does not end";
     case FRONT_END_NO_CODEWORD: return "no codeword";
     default: return "unknown";

@@ -63,7 +63,7 @@ enum {
     FRONT_END_MISSING_BITS = 20,   /* its bits end beyond the main data */
     FRONT_END_FACTOR_OVERRUN = 21, /* its scale factors are longer than it */
     FRONT_END_LOST_SHARE = 22,     /* it shares scale factors with a slot that was refused */
-    FRONT_END_REGION_OVERRUN = 23, /* region0_count + region1_count above 20 */
+    /* 23 is withdrawn, and not to be used again: regions that run off the end are read */
     FRONT_END_PAIR_OVERRUN = 24,   /* a pair does not end within it */
     FRONT_END_NO_CODEWORD = 25,    /* the next bits start no codeword; this cannot occur, since every code is complete */
 

@@ -229,6 +229,21 @@ fn mixed_factors(
     Ok(bits)
 }
 
+/// What the Rust says where the regions run off the end of its band starts.
+const NO_BAND: &str = "index out of bounds: the len is 23 but the index is ";
+
+/// A record of long bands without its third region: the region counts sum up to 20, where the second boundary is 576.
+fn without_third(r: &GranuleChannelSideInfo) -> GranuleChannelSideInfo {
+    GranuleChannelSideInfo {
+        big_values: r.big_values,
+        table_select: r.table_select,
+        region0_count: r.region0_count,
+        region1_count: 20 - r.region0_count,
+        count1table_select: r.count1table_select,
+        ..Default::default()
+    }
+}
+
 /// One slot read from the place where the lengths before it say that it starts, with zeros after the main data: what the
 /// Rust's functions make of the slot's own bits. The first line's end, and the rows below it.
 fn slot_alone(
@@ -260,12 +275,21 @@ fn slot_alone(
         return (format!("factors {}", bits), String::new());
     }
     let d = &mut data.granules[g].channels[c];
-    match caught(|| huffman::read_huffman(&mut reader, h, r, length - bits, &mut d.samples)) {
+    let mut read = caught(|| huffman::read_huffman(&mut reader, h, r, length - bits, &mut d.samples));
+    let mut off = "";
+    if let Err(Failure::Panic(why)) = &read {
+        if why.starts_with(NO_BAND) {
+            off = "off ";
+            read = caught(|| huffman::read_huffman(&mut reader, h, &without_third(r), length - bits, &mut d.samples));
+        }
+    }
+    let used = reader.place() - u64::from(start);
+    match read {
         Ok(count) => {
             d.count1 = count;
-            (format!("used {} count {}", reader.place() - u64::from(start), count), slot_rows(h, r, d, flag))
+            (format!("{}used {} count {}", off, used, count), slot_rows(h, r, d, flag))
         }
-        Err(why) => (format!("used {} {}", reader.place() - u64::from(start), why), String::new()),
+        Err(why) => (format!("{}used {} {}", off, used, why), String::new()),
     }
 }
 

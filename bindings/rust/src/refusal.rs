@@ -64,7 +64,6 @@ refusals! {
     MissingBits = 20, "the slot's bits end beyond the main data";
     FactorOverrun = 21, "scale factors longer than the slot";
     LostShare = 22, "scale factors shared with a slot that was refused";
-    RegionOverrun = 23, "region counts above 20";
     PairOverrun = 24, "a pair does not end within the slot";
     /// Cannot occur: every code is complete.
     NoCodeword = 25, "no codeword";

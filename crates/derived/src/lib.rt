@@ -292,7 +292,6 @@ pub fn number_of(why: Refusal) -> u8
         Refusal::MissingBits => 20,
         Refusal::FactorOverrun => 21,
         Refusal::LostShare => 22,
-        Refusal::RegionOverrun => 23,
         Refusal::PairOverrun => 24,
         Refusal::NoCodeword => 25,
     }

@@ -15,9 +15,7 @@ use Rattle.standard.specs.NumbersLaws.{numbers-none, numbers-some}
 use Rattle.standard.specs.declared.SampleRate.{SampleRate}
 use Rattle.standard.specs.declared.SlotRecord.{SlotRecord}
 use Rattle.standard.specs.declared.Refusal.{Refusal}
-use Rattle.standard.specs.declared.Refusal.the-variants.{RegionOverrun}
 use Rattle.standard.specs.declared.Regions.{Regions}
-use Rattle.standard.specs.declared.Regions.the-variants.{Split, NoRegions}
 use Rattle.codes.specs.Walk.{lookedUp}
 use Rattle.huffman.specs.Slot.{countOf, numbersAfter}
 use Rattle.huffman.specs.Runs.{pairsSaid, PairsRead, Filled, Says, NumbersRead}
@@ -53,24 +51,16 @@ module _ (trees : List ℕ) (rate : SampleRate) (r : SlotRecord) (s : List ℕ) 
   }
 
   module _ (h : at < e) where
-    pub no-regions : length out₀ ≡ 576 → NoRegions ≡ regionsOf rate r
-        → NumbersRead (numbersOf (lookedUp trees) rate r (between s at e)) 0 out₀ out₀ (Uncounted RegionOverrun)
-    unfolding Says numbersBy
-    no-regions l g = record {
-      long = l;
-      says = numbers-some (lookedUp trees) rate r s at e h ∙ ap (λ (x : Regions). numbersBy (lookedUp trees) r x (between s at e)) (sym g);
-    }
-
     -- what the whole is after its pairs
-    module _ (first second n : ℕ) (out₁ : List ℤ) (x : Ended) (g : Split first second ≡ regionsOf rate r) (hn : n ≡ r .«big_values»)
-        (p : PairsRead (pairs (lookedUp trees) (tableAt first second (r .«table_select»)) 0 n (between s at e)) n s e out₀ out₁ x) where
+    module _ (g : Regions) (n : ℕ) (out₁ : List ℤ) (x : Ended) (own : g ≡ regionsOf rate r) (hn : n ≡ r .«big_values»)
+        (p : PairsRead (pairs (lookedUp trees) (tableAt (g .first) (g .second) (r .«table_select»)) 0 n (between s at e)) n s e out₀ out₁ x) where
       after-pairs : numbersOf (lookedUp trees) rate r (between s at e)
           ≡ thenRest (lookedUp trees) (quadTable (r .«count1table_select»)) n (pairsSaid x (take (2 * n) out₁) s e)
       unfolding numbersBy
       after-pairs =
-          numbers-some (lookedUp trees) rate r s at e h ∙ ap (λ (y : Regions). numbersBy (lookedUp trees) r y (between s at e)) (sym g)
+          numbers-some (lookedUp trees) rate r s at e h ∙ ap (λ (y : Regions). numbersBy (lookedUp trees) r y (between s at e)) (sym own)
           ∙ ap (λ (m : ℕ). thenRest (lookedUp trees) (quadTable (r .«count1table_select»)) m
-          (pairs (lookedUp trees) (tableAt first second (r .«table_select»)) 0 m (between s at e))) (sym hn)
+          (pairs (lookedUp trees) (tableAt (g .first) (g .second) (r .«table_select»)) 0 m (between s at e))) (sym hn)
           ∙ ap (thenRest (lookedUp trees) (quadTable (r .«count1table_select»)) n) (p .same)
 
       pub pairs-halted : (why : Refusal) → x ≡ Halted why → NumbersRead (numbersOf (lookedUp trees) rate r (between s at e)) 0 out₀ out₁ (Uncounted why)

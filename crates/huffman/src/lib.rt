@@ -5,7 +5,6 @@ use derived::shape_of;
 use runs::Ended;
 use runs::read_pairs;
 use runs::read_quads;
-use standard::BlockType;
 use standard::MOST_BIG_VALUES;
 use standard::Refusal;
 use standard::Regions;
@@ -15,14 +14,11 @@ use standard::Shape;
 use standard::SlotRecord;
 use tables::bands::long_start;
 ghost use mathlib.Core.Path.{_≡_};
-ghost use mathlib.Core.Bool.{_&&_};
 ghost use Prim.Native.Nat.{_≤_};
-ghost use lib.Dec.{ltb};
 ghost use lib.ListN.{length};
 ghost use lib.Seq.{paste};
 ghost use Rattle.standard.specs.Sizes.{perSlot, mostBigValues};
 ghost use Rattle.standard.specs.Bits.{between};
-ghost use Rattle.standard.specs.Record.{isLong};
 ghost use Rattle.standard.specs.Numbers.{quadTable, windowRegions, regionsBy, regionsOf, numbersOf};
 ghost use Rattle.codes.specs.Walk.{lookedUp};
 ghost use Rattle.huffman.specs.Slot.{slotNumbers, toldCount, countOf, numbersAfter};
@@ -34,29 +30,13 @@ pub enum HuffmanAnswer {
     Uncounted(Refusal),
 }
 
-// Whether there is no band to change at: the region counts of a block that is not switched are read, and may sum up to more.
-fn no_band(block: BlockType, regions: usize) -> bool
-    ensures { λ r. ⌜ r ≡ isLong block && ltb 20 regions ⌝ }
-{
-    match block {
-        BlockType::Long => 20 < regions,
-        BlockType::Start => false,
-        BlockType::Short => false,
-        BlockType::End => false,
-    }
-}
-
-// Where the tables of long bands change: where the bands that the region counts name end.
+// Where the tables of long bands change: where the bands that the region counts name end. Past the last band that is 576.
 fn long_regions(rate: SampleRate, r: SlotRecord) -> Regions
     ensures { λ a. ⌜ a ≡ regionsBy Shape.AllLong rate r ⌝ }
 {
-    let block = r.block_type;
     let zero = r.region0_count as usize;
     let one = r.region1_count as usize;
-    if no_band(block, zero + one) {
-        return Regions::NoRegions;
-    }
-    Regions::Split {
+    Regions {
         first: long_start(rate, zero + 1),
         second: long_start(rate, zero + one + 2),
     }
@@ -66,7 +46,7 @@ fn long_regions(rate: SampleRate, r: SlotRecord) -> Regions
 fn window_regions() -> Regions
     ensures { λ a. ⌜ a ≡ windowRegions ⌝ }
 {
-    Regions::Split {
+    Regions {
         first: 36,
         second: SLOT_NUMBERS as u16,
     }
@@ -113,12 +93,10 @@ fn decode(
     if end <= at {
         return HuffmanAnswer::Counted { count: 0 };
     }
-    let Regions::Split { first, second } = regions_of(rate, r) else {
-        return HuffmanAnswer::Uncounted(Refusal::RegionOverrun);
-    };
+    let g = regions_of(rate, r);
     let tables = r.table_select;
     let n = r.big_values as usize;
-    match read_pairs(trees, first, second, tables, n, s, at, end, out) {
+    match read_pairs(trees, g.first, g.second, tables, n, s, at, end, out) {
         Ended::Halted(why) => HuffmanAnswer::Uncounted(why),
         Ended::At { place } => {
             read_quads(

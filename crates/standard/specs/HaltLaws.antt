@@ -21,11 +21,10 @@ use Rattle.standard.specs.declared.Setting.{Setting}
 use Rattle.standard.specs.declared.Shape.{Shape}
 use Rattle.standard.specs.declared.SlotRecord.{SlotRecord}
 use Rattle.standard.specs.declared.Refusal.{Refusal}
-use Rattle.standard.specs.declared.Refusal.the-variants.{FactorOverrun, LostShare, RegionOverrun, PairOverrun, NoCodeword}
+use Rattle.standard.specs.declared.Refusal.the-variants.{FactorOverrun, LostShare, PairOverrun, NoCodeword}
 use Rattle.standard.specs.declared.Codeword.{Codeword}
 use Rattle.standard.specs.declared.Codeword.the-variants.{Coded, Cut, Alien}
 use Rattle.standard.specs.declared.Regions.{Regions}
-use Rattle.standard.specs.declared.Regions.the-variants.{Split, NoRegions}
 use Rattle.standard.specs.declared.Number.{Number}
 use Rattle.standard.specs.declared.Number.the-variants.{Whole, Broken}
 use Rattle.standard.specs.declared.Pair.{Pair}
@@ -37,7 +36,6 @@ use Rattle.standard.specs.declared.Quad.the-variants.{Four, Dropped, NoQ
 pub record Allows (ok : Refusal → Bool) (word : Reader) : Type 0 where
   pub factors : ok FactorOverrun ≡ true
   pub share : ok LostShare ≡ true
-  pub region : ok RegionOverrun ≡ true
   pub pair : ok PairOverrun ≡ true
   pub alien : (t : ℕ) (b : List Bool) → word t b ≡ Alien → ok NoCodeword ≡ true
 
@@ -137,8 +135,7 @@ module _ (ok : Refusal → Bool) (word : Reader) (allows : Allows ok word) where
 
   by-ok : (r : SlotRecord) (g : Regions) (b : List Bool) → ok-numbers (numbersBy word r g b) ≡ true
   unfolding numbersBy ok-numbers
-  by-ok r NoRegions b = allows .region
-  by-ok r (Split first second) b = rest-ok _ (r .«big_values») _ (pairs-ok _ 0 (r .«big_values») b)
+  by-ok r g b = rest-ok _ (r .«big_values») _ (pairs-ok _ 0 (r .«big_values») b)
 
   numbers-ok : (rate : SampleRate) (r : SlotRecord) (b : List Bool) → ok-numbers (numbersOf word rate r b) ≡ true
   unfolding numbersOf ok-numbers
@@ -166,8 +163,8 @@ isOther k r = not (eqb (numberOf r) k)
 
 pub not-missing : Allows (isOther 20) wordOf
 unfolding isOther
-not-missing = record { factors = refl; share = refl; region = refl; pair = refl; alien = λ t b e. refl }
+not-missing = record { factors = refl; share = refl; pair = refl; alien = λ t b e. refl }
 
 pub not-alien : Allows (isOther 25) wordOf
 unfolding isOther wordOf
-not-alien = record { factors = refl; share = refl; region = refl; pair = refl; alien = λ t b e. absurd (complete t b e) }
+not-alien = record { factors = refl; share = refl; pair = refl; alien = λ t b e. absurd (complete t b e) }

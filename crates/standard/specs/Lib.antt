@@ -35,6 +35,7 @@ pub mod RecordBits
 pub mod SideBytes
 pub mod SideLaws
 pub mod NumbersLaws
+pub mod RegionsLaws
 pub mod FactorsLaws
 pub mod SharingLaws
 pub mod HaltLaws

@@ -1,7 +1,7 @@
 -- A slot's numbers (11172-3, 2.4.1.7 and 2.4.2.7: big_values, count1, linbits, signs; 2.4.3.4), from exactly the bits after its factors.
 -- Readers tell how many bits they used; what is left is the rest after so many. `word` reads a codeword of a table: in the definition it is
 -- `wordOf`, the published code.
-use mathlib.Core.Bool.{Bool, true, false, _&&_}
+use mathlib.Core.Bool.{Bool, true, false}
 use mathlib.Core.List.{List, [], _∷_, _++_}
 use Prim.Native.Nat.{ℕ, zero, suc, _+_, _-_, _*_, _/_, _%_}
 use lib.Dec.{ltb, leb, eqb}
@@ -12,17 +12,16 @@ use Rattle.standard.specs.Told.{pick}
 use Rattle.standard.specs.Bits.{value}
 use Rattle.standard.specs.Codes.{escapeWidth}
 use Rattle.standard.specs.Bands.{longStart}
-use Rattle.standard.specs.Record.{isLong, shapeOf}
+use Rattle.standard.specs.Record.{shapeOf}
 use Rattle.standard.specs.declared.SampleRate.{SampleRate}
 use Rattle.standard.specs.declared.SlotRecord.{SlotRecord}
 use Rattle.standard.specs.declared.Shape.{Shape}
 use Rattle.standard.specs.declared.Shape.the-variants.{AllLong, AllShort, LongThenShort}
 use Rattle.standard.specs.declared.Refusal.{Refusal}
-use Rattle.standard.specs.declared.Refusal.the-variants.{RegionOverrun, PairOverrun, NoCodeword}
+use Rattle.standard.specs.declared.Refusal.the-variants.{PairOverrun, NoCodeword}
 use Rattle.standard.specs.declared.Codeword.{Codeword}
 use Rattle.standard.specs.declared.Codeword.the-variants.{Coded, Cut, Alien}
 use Rattle.standard.specs.declared.Regions.{Regions}
-use Rattle.standard.specs.declared.Regions.the-variants.{Split, NoRegions}
 use Rattle.standard.specs.declared.Magnitude.{Magnitude}
 use Rattle.standard.specs.declared.Magnitude.the-variants.{Sized, Unsized}
 use Rattle.standard.specs.declared.Number.{Number}
@@ -116,13 +115,13 @@ quadTable true = 33
 
 -- ---- which table a pair is of, by its position: the regions. Where there are short bands the tables change at 36 only, at every rate
 abbrev pub windowRegions : Regions
-windowRegions = Split 36 perSlot
+windowRegions = record { first = 36; second = perSlot }
 
--- those of long bands end where the bands of region0_count and region1_count do
+-- those of long bands end where the bands of region0_count and region1_count do; counts that run off the end leave no third region, since past the
+-- last band stands the end of the spectrum
 unfoldable pub regionsBy : Shape → SampleRate → SlotRecord → Regions
 regionsBy AllLong rate r =
-    pick (isLong (r .«block_type») && ltb 20 (r .«region0_count» + r .«region1_count»)) NoRegions
-    (Split (longStart rate (r .«region0_count» + 1)) (longStart rate (r .«region0_count» + r .«region1_count» + 2)))
+    record { first = longStart rate (r .«region0_count» + 1); second = longStart rate (r .«region0_count» + r .«region1_count» + 2) }
 regionsBy AllShort rate r = windowRegions
 regionsBy LongThenShort rate r = windowRegions
 
@@ -170,9 +169,9 @@ thenRest word t n (halted r) = halted r
 thenRest word t n (got vs b) = prepend vs (quads word t ((perSlot - 2 * n) / 4) b)
 
 unfoldable pub numbersBy : Reader → SlotRecord → Regions → List Bool → Numbers
-numbersBy word r NoRegions b = halted RegionOverrun
-numbersBy word r (Split first second) b =
-    thenRest word (quadTable (r .«count1table_select»)) (r .«big_values») (pairs word (tableAt first second (r .«table_select»)) 0 (r .«big_values») b)
+numbersBy word r g b =
+    thenRest word (quadTable (r .«count1table_select»)) (r .«big_values»)
+    (pairs word (tableAt (g .first) (g .second) (r .«table_select»)) 0 (r .«big_values») b)
 
 -- no bits: no numbers, whatever big_values says, as in the Rust
 unfoldable pub numbersOf : Reader → SampleRate → SlotRecord → List Bool → Numbers

@@ -23,7 +23,6 @@ use Rattle.standard.specs.declared.Refusal.the-variants.{NoCodeword}
 use Rattle.standard.specs.declared.Codeword.{Codeword}
 use Rattle.standard.specs.declared.Codeword.the-variants.{Coded, Cut, Alien}
 use Rattle.standard.specs.declared.Regions.{Regions}
-use Rattle.standard.specs.declared.Regions.the-variants.{Split, NoRegions}
 use Rattle.standard.specs.declared.Magnitude.{Magnitude}
 use Rattle.standard.specs.declared.Magnitude.the-variants.{Sized, Unsized}
 use Rattle.standard.specs.declared.Number.{Number}
@@ -342,10 +341,10 @@ module _ (word : Reader) (fits : ReaderFits word) where
 
   numbers-by : (r : SlotRecord) → r .«big_values» ≤ 288 → (g : Regions) (b : List Bool) → Gives (AtMost 576) (numbersBy word r g b)
   unfolding numbersBy
-  numbers-by r h NoRegions b = tt
-  numbers-by r h (Split first second) b =
-      then-rest (quadTable (r .«count1table_select»)) (r .«big_values») h (pairs word (tableAt first second (r .«table_select»)) 0 (r .«big_values») b)
-      (pairs-bounded (tableAt first second (r .«table_select»)) 0 (r .«big_values») b)
+  numbers-by r h g b =
+      let table = tableAt (g .first) (g .second) (r .«table_select») in
+      then-rest (quadTable (r .«count1table_select»)) (r .«big_values») h (pairs word table 0 (r .«big_values») b)
+      (pairs-bounded table 0 (r .«big_values») b)
 
   -- a slot has at most 576 numbers, and none above 8,206 in magnitude
   pub numbers-bounded : (rate : SampleRate) (r : SlotRecord) → r .«big_values» ≤ 288 → (b : List Bool) → Gives (AtMost 576) (numbersOf word rate r b)

@@ -4,12 +4,12 @@ use Rattle.standard.specs.Told.{Told, refused, told, toldOr, verdictOf}
 use mathlib.Core.Path.{_≡_}
 use Rattle.standard.specs.declared.FrameHeader.{FrameHeader}
 use Rattle.standard.specs.declared.Refusal.{Refusal}
-use Rattle.standard.specs.declared.Refusal.the-variants.{UnfitMemory, MadeUpRecord, AbsentBytes, NoSync, ReservedVersion, ReservedLayer, OtherLayer, FreeBitrate, ForbiddenBitrate, ReservedRate, ReservedEmphasis, TooManyPairs, ForbiddenBlock, MixedBlock, ShortReservoir, MissingBits, FactorOverrun, LostShare, RegionOverrun, PairOverrun, NoCodeword}
+use Rattle.standard.specs.declared.Refusal.the-variants.{UnfitMemory, MadeUpRecord, AbsentBytes, NoSync, ReservedVersion, ReservedLayer, OtherLayer, FreeBitrate, ForbiddenBitrate, ReservedRate, ReservedEmphasis, TooManyPairs, ForbiddenBlock, MixedBlock, ShortReservoir, MissingBits, FactorOverrun, LostShare, PairOverrun, NoCodeword}
 use Rattle.standard.specs.declared.Verdict.{Verdict}
 use Rattle.standard.specs.declared.HeaderAnswer.{HeaderAnswer}
 use Rattle.standard.specs.declared.HeaderAnswer.the-variants.{Header, NoHeader}
 
--- docs/REFUSALS.md
+-- docs/REFUSALS.md; 23 was a refusal of regions, and is not used again
 abbrev pub numberOf : Refusal → ℕ
 numberOf UnfitMemory = 1
 numberOf MadeUpRecord = 14
@@ -29,7 +29,6 @@ numberOf ShortReservoir = 13
 numberOf MissingBits = 20
 numberOf FactorOverrun = 21
 numberOf LostShare = 22
-numberOf RegionOverrun = 23
 numberOf PairOverrun = 24
 numberOf NoCodeword = 25
 
@@ -53,7 +52,6 @@ offsetOf ShortReservoir = 0
 offsetOf MissingBits = 0
 offsetOf FactorOverrun = 0
 offsetOf LostShare = 0
-offsetOf RegionOverrun = 0
 offsetOf PairOverrun = 0
 offsetOf NoCodeword = 0
 

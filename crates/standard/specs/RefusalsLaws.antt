@@ -2,12 +2,13 @@
 use mathlib.Core.Path.{_≡_, refl, sym, ap, _∙_}
 use mathlib.Core.List.{List, [], _∷_}
 use Prim.Native.Nat.{ℕ}
+use native.Mathlib.Omega.{arith}
 use lib.ListN.{getD}
 use Rattle.standard.specs.Told.{Told, refused, told, toldOr, verdictOf}
 use Rattle.standard.specs.ToldLaws.{clash}
 use Rattle.standard.specs.Refusals.{numberOf, offsetOf, toldHeader, Answers}
 use Rattle.standard.specs.declared.Refusal.{Refusal}
-use Rattle.standard.specs.declared.Refusal.the-variants.{UnfitMemory, MadeUpRecord, AbsentBytes, NoSync, ReservedVersion, ReservedLayer, OtherLayer, FreeBitrate, ForbiddenBitrate, ReservedRate, ReservedEmphasis, TooManyPairs, ForbiddenBlock, MixedBlock, ShortReservoir, MissingBits, FactorOverrun, LostShare, RegionOverrun, PairOverrun, NoCodeword}
+use Rattle.standard.specs.declared.Refusal.the-variants.{UnfitMemory, MadeUpRecord, AbsentBytes, NoSync, ReservedVersion, ReservedLayer, OtherLayer, FreeBitrate, ForbiddenBitrate, ReservedRate, ReservedEmphasis, TooManyPairs, ForbiddenBlock, MixedBlock, ShortReservoir, MissingBits, FactorOverrun, LostShare, PairOverrun, NoCodeword}
 use Rattle.standard.specs.declared.Verdict.{Verdict}
 use Rattle.standard.specs.declared.Verdict.the-variants.{Accepted, Refused}
 use Rattle.standard.specs.declared.HeaderAnswer.{HeaderAnswer}
@@ -67,7 +68,7 @@ refusals : ℕ → List Refusal
 refusals n =
     NoSync ∷ UnfitMemory ∷ AbsentBytes n ∷ NoSync ∷ ReservedVersion ∷ ReservedLayer ∷ OtherLayer ∷ FreeBitrate ∷ ForbiddenBitrate ∷ ReservedEmphasis ∷
     TooManyPairs ∷ ForbiddenBlock ∷ MixedBlock ∷ ShortReservoir ∷ MadeUpRecord ∷ ReservedRate ∷ NoSync ∷ NoSync ∷ NoSync ∷ NoSync ∷
-    MissingBits ∷ FactorOverrun ∷ LostShare ∷ RegionOverrun ∷ PairOverrun ∷ NoCodeword ∷ []
+    MissingBits ∷ FactorOverrun ∷ LostShare ∷ NoSync ∷ PairOverrun ∷ NoCodeword ∷ []
 
 back : (r : Refusal) → getD (refusals (offsetOf r)) (numberOf r) NoSync ≡ r
 unfolding refusals
@@ -89,14 +90,22 @@ back ShortReservoir = refl
 back MissingBits = refl
 back FactorOverrun = refl
 back LostShare = refl
-back RegionOverrun = refl
 back PairOverrun = refl
 back NoCodeword = refl
 
 pub one-number : (r q : Refusal) → numberOf r ≡ numberOf q → offsetOf r ≡ offsetOf q → r ≡ q
 one-number r q e f = sym (back r) ∙ (λ j. getD (refusals (f j)) (e j) NoSync) ∙ back q
 
+-- a number is that of the refusal in its place
+by-number : (r : Refusal) (n : ℕ) → numberOf r ≡ n → r ≡ getD (refusals (offsetOf r)) n NoSync
+by-number r n e = sym (back r) ∙ ap (λ (k : ℕ). getD (refusals (offsetOf r)) k NoSync) e
+
 -- 13 is told of a short reservoir alone
 pub short-only : (r : Refusal) → numberOf r ≡ 13 → r ≡ ShortReservoir
 unfolding refusals
-short-only r e = sym (back r) ∙ ap (λ (n : ℕ). getD (refusals (offsetOf r)) n NoSync) e
+short-only r e = by-number r 13 e
+
+-- 23 was a refusal's once, and is none's again: nothing but the filling stands in its place
+pub withdrawn : (r : Refusal) → numberOf r ≡ 23 → ⊥
+unfolding refusals
+withdrawn r e = let filled : r ≡ NoSync = by-number r 23 e in omega (arith, e, ap numberOf filled)

@@ -1,20 +1,19 @@
 -- The new order, band by band: which number comes to each place of a band, and what is left of the order after one.
 use mathlib.Core.Path.{_≡_, refl, sym, ap, _∙_}
-use mathlib.Core.Bool.{Bool, true, false, _&&_}
+use mathlib.Core.Bool.{true, false, _&&_}
 use mathlib.Core.List.{List, [], _∷_, _++_, append-nil}
 use Prim.Native.Nat.{ℕ, zero, suc, _+_, _-_, _*_, _≤_, _<_}
 use native.Mathlib.Numerals.{add-one}
 use native.Mathlib.Omega.{arith}
-use borrow.Author.Tests.{leb-true, eqb-true, lt-ltb, le-ltb}
-use lib.Dec.{leb, eqb}
+use borrow.Author.Tests.{lt-ltb, le-ltb}
 use lib.IntN.{ℤ, pos}
 use lib.ListN.{length, getD, take, drop, take-append-drop, drop-of-length-le}
 use lib.Seq.{drop-cons}
 use Rattle.standard.specs.Bands.{rowOf, shortRows, shortStart}
-use Rattle.standard.specs.BandsLaws.{row-lt}
-use Rattle.standard.specs.RowsLaws.{every, every-in, rows-long}
+use Rattle.standard.specs.BandsLaws.{row-lt, short-rising, starts-at-0, rises, tops, lasts}
+use Rattle.standard.specs.RowsLaws.{every, rows-long}
 use Rattle.standard.specs.Told.{told, refused}
-use Rattle.standard.specs.ToldLaws.{never, both-of, both, picked, passed}
+use Rattle.standard.specs.ToldLaws.{never, both, picked, passed}
 use Rattle.standard.specs.Header.{isSlow, isHeader}
 use Rattle.standard.specs.Record.{shapeOf}
 use Rattle.standard.specs.SideInfo.{isRecordUnder}
@@ -81,79 +80,18 @@ module _ (from w : ℕ) (d : List ℤ) (i : ℕ) (h : i < w) where
   unfolding bandNumbers
   band-third = let e : 0 + i ≡ i = omega arith in band-from from w d w 0 i h .2 ∙ ap (λ (k : ℕ). getD d (from + 2 * w + k) (pos 0)) e
 
--- ---- the bands of a rate rise from 0 to 192
-rising : ℕ → List ℕ → Bool
-rising b [] = eqb b 192
-rising b (c ∷ cs) = leb b c && rising c cs
-
-risingRow : List ℕ → Bool
-unfolding rising
-risingRow [] = false
-risingRow (b ∷ cs) = eqb b 0 && rising b cs
-
-all-rising : every risingRow shortRows ≡ true
-unfolding every rising risingRow shortRows
-all-rising = refl
-
-row-rising : (r : SampleRate) → risingRow (getD shortRows (rowOf r) []) ≡ true
-unfolding shortRows
-row-rising r = every-in risingRow [] shortRows all-rising (rowOf r) (row-lt r)
-
-rises-from : (cs : List ℕ) (b : ℕ) → rising b cs ≡ true → (k : ℕ) → getD (b ∷ cs) k 192 ≤ getD cs k 192
-unfolding rising
-rises-from [] b e zero = omega (arith, eqb-true b 192 e)
-rises-from [] b e (suc k) = omega arith
-rises-from (c ∷ cs) b e zero = leb-true b c (both-of (leb b c) (rising c cs) e .0)
-rises-from (c ∷ cs) b e (suc k) = rises-from cs c (both-of (leb b c) (rising c cs) e .1) k
-
-tops-from : (cs : List ℕ) (b : ℕ) → rising b cs ≡ true → (k : ℕ) → getD (b ∷ cs) k 192 ≤ 192
-unfolding rising
-tops-from [] b e zero = omega (arith, eqb-true b 192 e)
-tops-from [] b e (suc k) = omega arith
-tops-from (c ∷ cs) b e zero =
-    let p = both-of (leb b c) (rising c cs) e in omega (arith, leb-true b c (p .0), tops-from cs c (p .1) 0)
-tops-from (c ∷ cs) b e (suc k) = tops-from cs c (both-of (leb b c) (rising c cs) e .1) k
-
--- of a whole row
-starts-at-0 : (row : List ℕ) → risingRow row ≡ true → getD row 0 192 ≡ 0
-unfolding risingRow
-starts-at-0 [] e = never e
-starts-at-0 (b ∷ cs) e = eqb-true b 0 (both-of (eqb b 0) (rising b cs) e .0)
-
-rises : (row : List ℕ) → risingRow row ≡ true → (k : ℕ) → getD row k 192 ≤ getD row (suc k) 192
-unfolding risingRow
-rises [] e k = never e
-rises (b ∷ cs) e k = rises-from cs b (both-of (eqb b 0) (rising b cs) e .1) k
-
-tops : (row : List ℕ) → risingRow row ≡ true → (k : ℕ) → getD row k 192 ≤ 192
-unfolding risingRow
-tops [] e k = never e
-tops (b ∷ cs) e k = tops-from cs b (both-of (eqb b 0) (rising b cs) e .1) k
-
-last-from : (cs : List ℕ) (b : ℕ) → rising b cs ≡ true → getD (b ∷ cs) (length cs) 192 ≡ 192
-unfolding rising
-last-from [] b e = eqb-true b 192 e
-last-from (c ∷ cs) b e = last-from cs c (both-of (leb b c) (rising c cs) e .1)
-
-lasts : (row : List ℕ) → risingRow row ≡ true → getD row (length row - 1) 192 ≡ 192
-unfolding risingRow
-lasts [] e = never e
-lasts (b ∷ cs) e =
-    let p : suc (length cs) - 1 ≡ length cs = omega arith in
-    ap (λ (k : ℕ). getD (b ∷ cs) k 192) p ∙ last-from cs b (both-of (eqb b 0) (rising b cs) e .1)
-
 module _ (r : SampleRate) where
   pub short-first : shortStart r 0 ≡ 0
   unfolding shortStart
-  short-first = starts-at-0 (getD shortRows (rowOf r) []) (row-rising r)
+  short-first = starts-at-0 192 (getD shortRows (rowOf r) []) (short-rising r)
 
   pub short-rises : (k : ℕ) → shortStart r k ≤ shortStart r (k + 1)
   unfolding shortStart
-  short-rises k = rw add-one (rises (getD shortRows (rowOf r) []) (row-rising r) k)
+  short-rises k = rw add-one (rises 192 (getD shortRows (rowOf r) []) (short-rising r) k)
 
   pub short-tops : (k : ℕ) → shortStart r k ≤ 192
   unfolding shortStart
-  short-tops k = tops (getD shortRows (rowOf r) []) (row-rising r) k
+  short-tops k = tops 192 (getD shortRows (rowOf r) []) (short-rising r) k
 
   row-length : length (getD shortRows (rowOf r) []) ≡ 14
   unfolding every shortRows
@@ -163,7 +101,7 @@ module _ (r : SampleRate) where
   unfolding shortStart
   short-last =
       let p : length (getD shortRows (rowOf r) []) - 1 ≡ 13 = omega (arith, row-length) in
-      ap (λ (k : ℕ). getD (getD shortRows (rowOf r) []) k 192) (sym p) ∙ lasts (getD shortRows (rowOf r) []) (row-rising r)
+      ap (λ (k : ℕ). getD (getD shortRows (rowOf r) []) k 192) (sym p) ∙ lasts 192 (getD shortRows (rowOf r) []) (short-rising r)
 
   -- ---- the order from the k-th band on: that band's, and then the order from the next one on
   pub order-band : (k : ℕ) (d : List ℤ) → k < 13

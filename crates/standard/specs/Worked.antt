@@ -23,7 +23,7 @@ use Rattle.standard.specs.declared.SampleRate.{SampleRate}
 use Rattle.standard.specs.declared.SampleRate.the-variants.{Hz44100}
 use Rattle.standard.specs.declared.Shape.{Shape}
 use Rattle.standard.specs.declared.Shape.the-variants.{AllShort, LongThenShort}
-use Rattle.standard.specs.declared.Refusal.the-variants.{MissingBits, FactorOverrun, RegionOverrun, PairOverrun, ShortReservoir, ReservedVersion, ReservedLayer, OtherLayer, FreeBitrate, ForbiddenBitrate, ReservedRate, TooManyPairs, MixedBlock}
+use Rattle.standard.specs.declared.Refusal.the-variants.{MissingBits, FactorOverrun, PairOverrun, ShortReservoir, ReservedVersion, ReservedLayer, OtherLayer, FreeBitrate, ForbiddenBitrate, ReservedRate, TooManyPairs, MixedBlock}
 use Rattle.standard.specs.declared.Refusal.{Refusal}
 use Rattle.standard.specs.declared.Verdict.{Verdict}
 use Rattle.standard.specs.declared.Verdict.the-variants.{Accepted, Refused}
@@ -113,14 +113,10 @@ plainTable =
     (pos 1 ∷ pos 5 ∷ pos 9 ∷ pos 2 ∷ pos 6 ∷ pos 10 ∷ pos 3 ∷ pos 7 ∷ pos 11 ∷ pos 4 ∷ pos 8 ∷ pos 12 ∷ []) ∷
     []
 
--- ---- and those of mixed blocks
+-- ---- and those of regions that run off the end, and of mixed blocks
 -- F's header with other side information and main data
 abbrev frameWith : List ℕ → List ℕ → List ℕ
 frameWith side main = 0xFF ∷ 0xF3 ∷ 0x14 ∷ 0xC0 ∷ (side ++ main)
-
--- a frame of MPEG-1 at 48 kHz, of 32,000 bits a second and one channel
-abbrev frame1With : List ℕ → List ℕ → List ℕ
-frame1With side main = 0xFF ∷ 0xFB ∷ 0x14 ∷ 0xC0 ∷ (side ++ main)
 
 abbrev with : List ℕ → List ℕ → List Outcome → Row
 with s main os = ofFrame s [] Accepted os (keeping main)
@@ -128,6 +124,14 @@ with s main os = ofFrame s [] Accepted os (keeping main)
 -- F's main data with another first byte
 abbrev mainBy : ℕ → List ℕ
 mainBy n = n ∷ replicate 10 0x00
+
+-- 117 pairs, tables 0 and 1, region counts 15 and 7
+abbrev sideOff : List ℕ
+sideOff = 0x00 ∷ 0x00 ∷ 0x19 ∷ 0xD7 ∷ 0x48 ∷ 0x00 ∷ 0x00 ∷ 0x47 ∷ 0xFD ∷ []
+
+-- a frame of MPEG-1 at 48 kHz, of 32,000 bits a second and one channel
+abbrev frame1With : List ℕ → List ℕ → List ℕ
+frame1With side main = 0xFF ∷ 0xFB ∷ 0x14 ∷ 0xC0 ∷ (side ++ main)
 
 -- 19 pairs of which the first 18 are in table 0, where the tables change at 36; t is the byte of block_type and mixed_block_flag
 abbrev nineteen : ℕ → List ℕ
@@ -152,8 +156,10 @@ main35 =
 abbrev sideShared : List ℕ
 sideShared = 0x00 ∷ 0x03 ∷ 0xC0 ∷ 0x00 ∷ 0x01 ∷ 0xA4 ∷ 0x20 ∷ 0x00 ∷ 0x00 ∷ 0x08 ∷ 0x04 ∷ 0x00 ∷ 0x34 ∷ 0x83 ∷ 0x40 ∷ 0x00 ∷ 0x01 ∷ []
 
-abbrev mixedTable : List Row
-mixedTable =
+abbrev addedTable : List Row
+addedTable =
+    -- region counts 15 and 7: the second table begins at 232, and there is no third region
+    with (frameWith sideOff (mainBy 0x60)) (mainBy 0x60) (read (replicate 232 (pos 0) ++ negsuc 0 ∷ pos 0 ∷ []) ∷ []) ∷
     wholly (set (set frameF 9 0x01) 10 0xA1) (read numbersF) ∷
     with (frameWith (nineteen 0xA0) (mainBy 0x60)) (mainBy 0x60) (read (replicate 36 (pos 0) ++ negsuc 0 ∷ pos 0 ∷ []) ∷ []) ∷
     -- a start block with the flag is read as without it: its first region ends at 54
@@ -175,7 +181,7 @@ mixedTable =
     []
 
 abbrev pub table : List Row
-table = plainTable ++ mixedTable
+table = plainTable ++ addedTable
 
 -- F's slot from other main data than its own
 unfoldable pub slotsBy : List ℕ → List ℕ → List Outcome
@@ -241,21 +247,24 @@ plain-so = (
   ),
 )
 
-mixed-so : AllSo IsSo mixedTable
+added-so : AllSo IsSo addedTable
 unfolding step ordered upFrom
-mixed-so = (
+added-so = (
   (refl, refl, refl),
   (
     (refl, refl, refl),
     (
       (refl, refl, refl),
-      ((refl, refl, refl), ((refl, refl, refl), ((refl, refl, refl), ((refl, refl, refl), (λ rest. refl, tt))))),
+      (
+        (refl, refl, refl),
+        ((refl, refl, refl), ((refl, refl, refl), ((refl, refl, refl), ((refl, refl, refl), (λ rest. refl, tt))))),
+      ),
     ),
   ),
 )
 
 pub starred : AllSo IsSo table
-starred = all-append IsSo plainTable mixedTable plain-so mixed-so
+starred = all-append IsSo plainTable addedTable plain-so added-so
 
 -- ---- the other rows: after the frame that was refused by 13
 pub then-begin-11 : step (reachingBack 11) mainF .slots ≡ read numbersF ∷ []
@@ -294,6 +303,6 @@ pub regions-20 : slots (set (set frameF 11 0x01) 12 0xF5) ≡ read numbersF ∷ 
 unfolding slots
 regions-20 = refl
 
-pub regions-21 : slots (set (set frameF 11 0x01) 12 0xF9) ≡ stopped RegionOverrun ∷ []
+pub regions-21 : slots (set (set frameF 11 0x01) 12 0xF9) ≡ read numbersF ∷ []
 unfolding slots
 regions-21 = refl

@@ -150,7 +150,6 @@ pub enum Refusal {
     MissingBits,
     FactorOverrun,
     LostShare,
-    RegionOverrun,
     PairOverrun,
     NoCodeword,
 }
@@ -225,10 +224,10 @@ pub enum Codeword {
     Alien,
 }
 
-// Where the tables of a slot's pairs change: positions among its 576 numbers. Or there is no band to change at.
-pub enum Regions {
-    Split { first: u16, second: u16 },
-    NoRegions,
+// Where the tables of a slot's pairs change: positions among its 576 numbers.
+pub struct Regions {
+    pub first: u16,
+    pub second: u16,
 }
 
 // How large a number is, with the escape bits that say so; or the bits end within them.

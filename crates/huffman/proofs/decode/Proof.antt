@@ -1,33 +1,16 @@
--- `huffman::decode` meets its contract: no bits, no regions, a pair that is refused, or the pairs and then the quads, by the laws of the whole.
+-- `huffman::decode` meets its contract: no bits, a pair that is refused, or the pairs and then the quads, by the laws of the whole.
 -- Assumes nothing.
-use mathlib.Core.Path.{refl, sym, _∙_}
-use Rattle.huffman.proofs.Whole.{none-read, no-regions, pairs-halted, quads-read}
+use mathlib.Core.Path.{refl}
+use Rattle.huffman.proofs.Whole.{none-read, pairs-halted, quads-read}
 use borrow.Author.Needs.{needs}
 use Rattle.huffman.proofs.decode.Statement.{statement}
 use Rattle.huffman.proofs.decode.Tie as tie
-use Rattle.huffman.proofs.decode.Reads as reads
-use Rattle.huffman.proofs.decode.Lts as lts
-use Rattle.huffman.proofs.quad_table.Reads as quad-table-reads
-use Rattle.huffman.proofs.regions_of.Reads as regions-of-reads
-use Rattle.huffman.proofs.runs.read_pairs.Reads as read-pairs-reads
-use Rattle.huffman.proofs.runs.read_quads.Reads as read-quads-reads
 
 returns : tie.Need-returns
 returns c = none-read _ _ _ _ _ _ _ (c .before .before .before .pre .1) (c .if1 .taken)
 
 regions-of-requires : tie.Need-regions-of-requires
 regions-of-requires c κs = search needs
-
-enum-known-first : tie.Need-enum-known-first
-enum-known-first c = search needs
-
-enum-told : tie.Need-enum-told
-enum-told c = search needs
-
-returns-2 : tie.Need-returns-2
-returns-2 c =
-    no-regions _ _ _ _ _ _ _ (c .before .before .before .if1 .left) (c .before .before .before .before .before .before .pre .1)
-    (sym (c .enum-told .given .1) ∙ c .before .before .regions-of .ensures)
 
 cast-n : tie.Need-cast-n
 cast-n c = search needs
@@ -50,21 +33,18 @@ mul-read-quads c = search needs
 read-quads-requires : tie.Need-read-quads-requires
 read-quads-requires c κs = search needs
 
+returns-2 : tie.Need-returns-2
+returns-2 c =
+    let p = c .before .before .before in
+    let g = p .before .before .before .before in
+    pairs-halted _ _ _ _ _ _ _ (g .before .if1 .left) _ _ _ _ (g .regions-of .ensures) refl (p .read-pairs .ensures) _ (c .before .why .given .1)
+
 returns-3 : tie.Need-returns-3
 returns-3 c =
-    pairs-halted _ _ _ _ _ _ _ (c .before .before .before .before .before .before .before .before .before .before .before .if1 .left) _ _ _ _ _
-    (sym (c .before .before .before .before .before .before .before .before .first .given .1)
-    ∙ c .before .before .before .before .before .before .before .before .before .before .regions-of .ensures) refl
-    (c .before .before .before .read-pairs .ensures) _ (c .before .why .given .1)
-
-returns-4 : tie.Need-returns-4
-returns-4 c =
-    quads-read _ _ _ _ _ _ _
-    (c .before .before .before .before .before .before .before .before .before .before .before .before .before .before .if1 .left) _ _ _ _ _
-    (sym (c .before .before .before .before .before .before .before .before .before .before .before .first .given .1)
-    ∙ c .before .before .before .before .before .before .before .before .before .before .before .before .before .regions-of .ensures) refl
-    (c .before .before .before .before .before .before .read-pairs .ensures) _ _ _ _ (c .before .before .before .before .place .given .1)
-    (c .before .before .quad-table .ensures) (c .read-quads .ensures)
+    let p = c .before .before .before .before .before .before in
+    let g = p .before .before .before .before in
+    quads-read _ _ _ _ _ _ _ (g .before .if1 .left) _ _ _ _ (g .regions-of .ensures) refl (p .read-pairs .ensures) _ _ _ _
+    (c .before .before .before .before .place .given .1) (c .before .before .quad-table .ensures) (c .read-quads .ensures)
 
 pub decode-spec : {M : Type 1} → statement M
 decode-spec =
@@ -72,9 +52,6 @@ decode-spec =
     (tie.spec
     returns
     regions-of-requires
-    enum-known-first
-    enum-told
-    returns-2
     cast-n
     read-pairs-requires
     enum-known-why
@@ -82,5 +59,5 @@ decode-spec =
     quad-table-requires
     mul-read-quads
     read-quads-requires
-    returns-3
-    returns-4)
+    returns-2
+    returns-3)
