@@ -190,7 +190,8 @@ def whole(f, told):
             need(f.failure, 'the Rust read a slot that is lacking or damaged')
             past = told[k]['refused'] == 20 or start + int(words[1]) > bits
             need(late or past or f.failure[0] == 'panic', 'the Rust fails in another way')
-            entries.add(8 if told[k]['refused'] in (20, 21) else 14 if mine.off else 3 if told[k]['refused'] == 24 else 8)
+            if not mine.off:  # entries_of has those
+                entries.add(3 if told[k]['refused'] == 24 else 8)
             return entries | ({2} if late else set())
         if late:
             continue

@@ -1,4 +1,4 @@
--- Every rate has its row, and every row all of its band starts.
+-- Every rate has its row, and every row all of its band starts, which rise from 0 to the end of the spectrum.
 use mathlib.Core.Path.{_≡_, refl, ap, _∙_}
 use mathlib.Core.Bool.{Bool, true, false, _&&_}
 use mathlib.Core.List.{List, [], _∷_}

@@ -38,7 +38,7 @@ module _ (rate : SampleRate) (r : SlotRecord) where
   unfolding regionsBy
   runs-off h = long-past rate (r .«region0_count» + r .«region1_count» + 2) (omega arith)
 
--- for every record, made-up ones too
+-- the first boundary is no later than the second, and that within the 576: for every record, made-up ones too
 pub boundaries-rise : (k : Shape) (rate : SampleRate) (r : SlotRecord) → (regionsBy k rate r .first ≤ regionsBy k rate r .second) × (regionsBy k rate r .second ≤ 576)
 unfolding regionsBy
 boundaries-rise AllLong rate r =
