@@ -34,11 +34,12 @@ def numbers(line):
 
 class Slot:
     """One slot as the Rust read it: alone (with the bits that it used) or in the whole. off: it stopped at regions that run off the end, and was read
-    without the third one."""
+    without the third one. promised: it has no bits for its numbers, and a pair with a codeword."""
 
     def __init__(self, first):
         self.off = first.startswith('off ')
         self.first = first[4:] if self.off else first
+        self.promised = first.endswith(' promised')
         self.rows = {}
 
     def row(self, word):
@@ -125,6 +126,9 @@ def refusal(f, k, start, told):
         return 24
     need(words[2] == 'count', 'a slot alone: ' + mine.first)
     used, count = int(words[1]), int(words[3])
+    if mine.promised:
+        need(used == length and count == 0, 'pairs without bits that were read')
+        return 24
     if used > length and count < 2 * pairs:
         need(count == 2 * pairs - 4, 'a pair that runs over drops four numbers')
         return 24
@@ -216,7 +220,7 @@ def entries_of(f, told):
         if mine.off:
             entries.add(14)
         if t['refused'] == 24:
-            entries.add(3)
+            entries.add(15 if mine.promised else 3)
         elif t['refused'] == 22:
             entries.add(9)
         elif t['refused'] is not None:

@@ -32,7 +32,7 @@ extern "C" {
 #define FRONT_END_NUMBERS 2304   /* numbers of a frame's slots: FRONT_END_SLOTS x FRONT_END_SLOT */
 #define FRONT_END_ROW 71         /* numbers in a slot's row (front_end_slot) */
 #define FRONT_END_ROWS (FRONT_END_SLOTS * FRONT_END_ROW) /* numbers in the rows of a frame */
-#define FRONT_END_STACK 16384    /* bytes of stack that a call needs, at most; measured are 11,216 (bindings/c/stack.c) */
+#define FRONT_END_STACK 16384    /* bytes of stack that a call needs, at most; measured are 11,232 (bindings/c/stack.c) */
 #define FRONT_END_FRAME 1441     /* bytes of the longest frame: so many, if the card has them, are always enough */
 
 /* ---- answers: 0 where a call is accepted, else one of these */
@@ -64,7 +64,7 @@ enum {
     FRONT_END_FACTOR_OVERRUN = 21, /* its scale factors are longer than it */
     FRONT_END_LOST_SHARE = 22,     /* it shares scale factors with a slot that was refused */
     /* 23 is withdrawn, and not to be used again: regions that run off the end are read */
-    FRONT_END_PAIR_OVERRUN = 24,   /* a pair does not end within it */
+    FRONT_END_PAIR_OVERRUN = 24,   /* a pair does not end within it, or there are no bits for one that it promises */
     FRONT_END_NO_CODEWORD = 25,    /* the next bits start no codeword; this cannot occur, since every code is complete */
 
     /* in a row: the frame has no such slot (mono, MPEG-2 or MPEG-2.5) */

@@ -244,6 +244,31 @@ fn without_third(r: &GranuleChannelSideInfo) -> GranuleChannelSideInfo {
     }
 }
 
+/// The numbers of a record from a reader; where its regions run off the end, as that without the third one. Whether they did.
+fn numbers(
+    reader: &mut BitReader<&[u8], BigEndian>,
+    h: &FrameHeader,
+    r: &GranuleChannelSideInfo,
+    length: u32,
+    samples: &mut [f32; 576],
+) -> (bool, Result<u32, Failure>) {
+    let read = caught(|| huffman::read_huffman(reader, h, r, length, samples));
+    match &read {
+        Err(Failure::Panic(why)) if why.starts_with(NO_BAND) => {
+            (true, caught(|| huffman::read_huffman(reader, h, &without_third(r), length, samples)))
+        }
+        _ => (false, read),
+    }
+}
+
+/// Whether a pair of the record has a codeword: told one bit and handed none, the Rust fails in the first such pair, and
+/// leaves its two numbers as they were.
+fn promised(h: &FrameHeader, r: &GranuleChannelSideInfo) -> bool {
+    let mut samples = [1.0; 576];
+    numbers(&mut BitReader::endian(&[], BigEndian), h, r, 1, &mut samples);
+    samples[..2 * usize::from(r.big_values)].contains(&1.0)
+}
+
 /// One slot read from the place where the lengths before it say that it starts, with zeros after the main data: what the
 /// Rust's functions make of the slot's own bits. The first line's end, and the rows below it.
 fn slot_alone(
@@ -275,19 +300,14 @@ fn slot_alone(
         return (format!("factors {}", bits), String::new());
     }
     let d = &mut data.granules[g].channels[c];
-    let mut read = caught(|| huffman::read_huffman(&mut reader, h, r, length - bits, &mut d.samples));
-    let mut off = "";
-    if let Err(Failure::Panic(why)) = &read {
-        if why.starts_with(NO_BAND) {
-            off = "off ";
-            read = caught(|| huffman::read_huffman(&mut reader, h, &without_third(r), length - bits, &mut d.samples));
-        }
-    }
+    let (off, read) = numbers(&mut reader, h, r, length - bits, &mut d.samples);
+    let off = if off { "off " } else { "" };
     let used = reader.place() - u64::from(start);
     match read {
         Ok(count) => {
             d.count1 = count;
-            (format!("{}used {} count {}", off, used, count), slot_rows(h, r, d, flag))
+            let unread = if length == bits && promised(h, r) { " promised" } else { "" };
+            (format!("{}used {} count {}{}", off, used, count, unread), slot_rows(h, r, d, flag))
         }
         Err(why) => (format!("{}used {} {}", off, used, why), String::new()),
     }

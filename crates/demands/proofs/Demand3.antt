@@ -42,11 +42,11 @@ says-missing o e = ap (λ (x : Outcome). slotTold x .outcome) e
 -- ---- what a call says and stores, by the definition
 module _ (h : FrameHeader) (i : SideInfo) where
   module _ (s : List ℕ) {d left : List ℤ} {answers : List SlotAnswer} (f : Answered (slotsOf h i s) answers d left) where
-    own-said : (n : ℕ) → n < length (records h i) → slotSaid answers n ≡ slotTold (outcomeOf h i s n)
+    pub own-said : (n : ℕ) → n < length (records h i) → slotSaid answers n ≡ slotTold (outcomeOf h i s n)
     unfolding outcomeOf
     own-said n l = said-is (slotsOf h i s) f n (omega (arith, length-slots h i s))
 
-    own-stored : (n : ℕ) → n < length (records h i) → partOf (576 * n) left ≡ ownOf (outcomeOf h i s n) (partOf (576 * n) d)
+    pub own-stored : (n : ℕ) → n < length (records h i) → partOf (576 * n) left ≡ ownOf (outcomeOf h i s n) (partOf (576 * n) d)
     unfolding outcomeOf
     own-stored n l = stored-is (slotsOf h i s) f n (omega (arith, length-slots h i s))
 
@@ -89,7 +89,7 @@ module _ (c : SlotsCall) (enough : 2304 ≤ length (slotsNumbers c)) (header : i
   unfolding toldOr
   call-told = ap (toldOr []) (read-call (slotsHeader c) (slotsInfo c) (mainData c) (length (slotsNumbers c)) enough header info)
 
-  follows : Answered (slotsOf (slotsHeader c) (slotsInfo c) (mainData c)) (c .answer .slots) (slotsNumbers c) (slotsNumbersAfter c)
+  pub follows : Answered (slotsOf (slotsHeader c) (slotsInfo c) (mainData c)) (c .answer .slots) (slotsNumbers c) (slotsNumbersAfter c)
   follows = record {
     says = c .promised .slots ∙ ap slotsTold call-told;
     stored = c .promised .numbers ∙ ap (λ (os : List Outcome). numbersFrom 0 os (slotsNumbers c)) call-told;

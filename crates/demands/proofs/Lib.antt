@@ -7,6 +7,7 @@ pub mod Demand1
 pub mod Exported
 pub mod Demand2
 pub mod Demand3
+pub mod Silence
 pub mod Absent
 pub mod OnlyValid
 pub mod Unique

@@ -1,16 +1,19 @@
 -- Why a slot's pairs and quads together leave what the definition says: what was read stands first, behind it stand the zeros that stood
 -- there before, and that is the padded whole.
 use mathlib.Core.Path.{_≡_, refl, sym, ap, _∙_, subst}
-use mathlib.Core.List.{List, [], _++_}
+use mathlib.Core.List.{List, [], _∷_, _++_}
 use Prim.Native.Nat.{ℕ, zero, suc, _-_, _*_, _/_, _≤_, _<_}
 use native.Mathlib.Nat.{sub-zero, zero-sub}
+use native.Mathlib.Decide.{decLe}
 use native.Mathlib.Omega.{arith}
 use lib.IntN.{ℤ, pos}
 use lib.ListN.{length, take, drop, replicate, take-append-drop}
 use lib.Seq.{paste, length-take-le}
 use Rattle.standard.specs.Told.{told}
 use Rattle.standard.specs.Bits.{between}
-use Rattle.standard.specs.Numbers.{Numbers, halted, prepend, quadTable, regionsOf, tableAt, pairs, quads, thenRest, numbersBy, numbersOf, padded}
+use Rattle.standard.specs.Numbers.{Numbers, halted, got, prepend, quadTable, regionsOf, tableAt, pairs, quads, thenRest, numbersBy, quiet, numbersOf, padded}
+use Rattle.standard.specs.BitsLaws.{between-nil}
+use Rattle.standard.specs.QuietLaws.{Zeros, zero-pairs, quiet-rest}
 use Rattle.standard.specs.NumbersLaws.{numbers-none, numbers-some}
 use Rattle.standard.specs.declared.SampleRate.{SampleRate}
 use Rattle.standard.specs.declared.SlotRecord.{SlotRecord}
@@ -37,51 +40,85 @@ says-on q q' from out₀ out₁ out e k (Counted n) f = record {
   kept = f .kept ∙ drop-on from n out₁ out₀ (f .low) k;
 }
 
-module _ (trees : List ℕ) (rate : SampleRate) (r : SlotRecord) (s : List ℕ) (at e : ℕ) (out₀ : List ℤ) where
-  pub none-read : length out₀ ≡ 576 → e ≤ at → NumbersRead (numbersOf (lookedUp trees) rate r (between s at e)) 0 out₀ out₀ (Counted 0)
-  unfolding Says
-  none-read l h = record {
-    long = l;
-    says = record {
-      low = omega arith;
-      high = omega arith;
-      gave = record { rest = []; same = numbers-none (lookedUp trees) rate r s at e h };
-      kept = refl;
-    };
-  }
+take-replicate : (k n : ℕ) (z : ℤ) → k ≤ n → take k (replicate n z) ≡ replicate k z
+take-replicate zero n z h = refl
+take-replicate (suc k) zero z h = absurd (omega arith)
+take-replicate (suc k) (suc n) z h = ap (λ (l : List ℤ). z ∷ l) (take-replicate k n z (omega arith))
 
-  module _ (h : at < e) where
-    -- what the whole is after its pairs
-    module _ (g : Regions) (n : ℕ) (out₁ : List ℤ) (x : Ended) (own : g ≡ regionsOf rate r) (hn : n ≡ r .«big_values»)
-        (p : PairsRead (pairs (lookedUp trees) (tableAt (g .first) (g .second) (r .«table_select»)) 0 n (between s at e)) n s e out₀ out₁ x) where
-      after-pairs : numbersOf (lookedUp trees) rate r (between s at e)
-          ≡ thenRest (lookedUp trees) (quadTable (r .«count1table_select»)) n (pairsSaid x (take (2 * n) out₁) s e)
-      unfolding numbersBy
-      after-pairs =
-          numbers-some (lookedUp trees) rate r s at e h ∙ ap (λ (y : Regions). numbersBy (lookedUp trees) r y (between s at e)) (sym own)
-          ∙ ap (λ (m : ℕ). thenRest (lookedUp trees) (quadTable (r .«count1table_select»)) m
-          (pairs (lookedUp trees) (tableAt (g .first) (g .second) (r .«table_select»)) 0 m (between s at e))) (sym hn)
-          ∙ ap (thenRest (lookedUp trees) (quadTable (r .«count1table_select»)) n) (p .same)
+-- what the whole is after its pairs
+module _ (trees : List ℕ) (rate : SampleRate) (r : SlotRecord) (s : List ℕ) (at e : ℕ) (out₀ : List ℤ) (g : Regions) (n : ℕ) (out₁ : List ℤ) (x : Ended)
+    (own : g ≡ regionsOf rate r) (hn : n ≡ r .«big_values»)
+    (p : PairsRead (pairs (lookedUp trees) (tableAt (g .first) (g .second) (r .«table_select»)) 0 n (between s at e)) n s e out₀ out₁ x) where
+  after-pairs : numbersBy (lookedUp trees) r (regionsOf rate r) (between s at e)
+      ≡ thenRest (lookedUp trees) (quadTable (r .«count1table_select»)) n (pairsSaid x (take (2 * n) out₁) s e)
+  unfolding numbersBy
+  after-pairs =
+      ap (λ (y : Regions). numbersBy (lookedUp trees) r y (between s at e)) (sym own)
+      ∙ ap (λ (m : ℕ). thenRest (lookedUp trees) (quadTable (r .«count1table_select»)) m
+      (pairs (lookedUp trees) (tableAt (g .first) (g .second) (r .«table_select»)) 0 m (between s at e))) (sym hn)
+      ∙ ap (thenRest (lookedUp trees) (quadTable (r .«count1table_select»)) n) (p .same)
 
-      pub pairs-halted : (why : Refusal) → x ≡ Halted why → NumbersRead (numbersOf (lookedUp trees) rate r (between s at e)) 0 out₀ out₁ (Uncounted why)
-      unfolding Says thenRest pairsSaid
-      pairs-halted why d = record {
+  -- a pair is refused, and with it the slot, with bits and without
+  pub pairs-halted : (why : Refusal) → x ≡ Halted why → NumbersRead (numbersOf (lookedUp trees) rate r (between s at e)) 0 out₀ out₁ (Uncounted why)
+  unfolding Says thenRest pairsSaid quiet
+  pairs-halted why d =
+      let same = after-pairs ∙ ap (λ (y : Ended). thenRest (lookedUp trees) (quadTable (r .«count1table_select»)) n (pairsSaid y (take (2 * n) out₁) s e)) d in
+      record {
         long = p .long;
-        says = after-pairs ∙ ap (λ (y : Ended). thenRest (lookedUp trees) (quadTable (r .«count1table_select»)) n (pairsSaid y (take (2 * n) out₁) s e)) d;
+        says = elim (decLe e at) [
+          | yes h ↦ numbers-none (lookedUp trees) rate r s at e h ∙ ap quiet same
+          | no h ↦ numbers-some (lookedUp trees) rate r s at e (omega arith) ∙ same
+        ];
       }
 
-      pub quads-read : (place t : ℕ) (out : List ℤ) (a : HuffmanAnswer) → x ≡ At place → t ≡ quadTable (r .«count1table_select»)
-          → NumbersRead (prepend (take (2 * n) out₁) (quads (lookedUp trees) t ((576 - 2 * n) / 4) (between s place e))) (2 * n) out₁ out a
-          → NumbersRead (numbersOf (lookedUp trees) rate r (between s at e)) 0 out₀ out a
-      unfolding thenRest pairsSaid
-      quads-read place t out a d ht f = record {
-        long = f .long;
-        says =
-            says-on (numbersOf (lookedUp trees) rate r (between s at e))
-            (prepend (take (2 * n) out₁) (quads (lookedUp trees) t ((576 - 2 * n) / 4) (between s place e))) (2 * n) out₀ out₁ out
-            (after-pairs ∙ (λ j. thenRest (lookedUp trees) (sym ht j) n (pairsSaid (d j) (take (2 * n) out₁) s e)))
-            (p .kept) a (f .says);
-      }
+  -- all are read of no bits: they are zeros, and nothing was coded
+  module _ (place : ℕ) (d : x ≡ At place) (none : e ≤ at) (few : n ≤ 288) (zeros : out₀ ≡ replicate 576 (pos 0)) where
+    read-none : Zeros n (got (take (2 * n) out₁) (between s place e))
+    unfolding pairsSaid
+    read-none =
+        subst (Zeros n) (p .same ∙ ap (λ (y : Ended). pairsSaid y (take (2 * n) out₁) s e) d)
+        (zero-pairs (lookedUp trees) (tableAt (g .first) (g .second) (r .«table_select»)) 0 n (between s at e) (between-nil s at e none))
+
+    same-zeros : out₁ ≡ out₀
+    same-zeros =
+        sym (take-append-drop (2 * n) out₁)
+        ∙ (λ j. (read-none .0 ∙ sym (take-replicate (2 * n) 576 (pos 0) (omega arith)) ∙ ap (take (2 * n)) (sym zeros)) j ++ p .kept j)
+        ∙ take-append-drop (2 * n) out₀
+
+    pub none-read : NumbersRead (numbersOf (lookedUp trees) rate r (between s at e)) 0 out₀ out₁ (Counted 0)
+    unfolding Says pairsSaid
+    none-read = record {
+      long = p .long;
+      says = record {
+        low = omega arith;
+        high = omega arith;
+        gave = record {
+          rest = [];
+          same =
+              numbers-none (lookedUp trees) rate r s at e none
+              ∙ ap quiet
+              (after-pairs
+              ∙ ap (λ (y : Ended). thenRest (lookedUp trees) (quadTable (r .«count1table_select»)) n (pairsSaid y (take (2 * n) out₁) s e)) d)
+              ∙ quiet-rest (lookedUp trees) (quadTable (r .«count1table_select»)) n (take (2 * n) out₁) (between s place e) (read-none .1);
+        };
+        kept = same-zeros;
+      };
+    }
+
+  -- then the quads
+  pub quads-read : (place t : ℕ) (out : List ℤ) (a : HuffmanAnswer) → at < e → x ≡ At place → t ≡ quadTable (r .«count1table_select»)
+      → NumbersRead (prepend (take (2 * n) out₁) (quads (lookedUp trees) t ((576 - 2 * n) / 4) (between s place e))) (2 * n) out₁ out a
+      → NumbersRead (numbersOf (lookedUp trees) rate r (between s at e)) 0 out₀ out a
+  unfolding thenRest pairsSaid
+  quads-read place t out a h d ht f = record {
+    long = f .long;
+    says =
+        says-on (numbersOf (lookedUp trees) rate r (between s at e))
+        (prepend (take (2 * n) out₁) (quads (lookedUp trees) t ((576 - 2 * n) / 4) (between s place e))) (2 * n) out₀ out₁ out
+        (numbers-some (lookedUp trees) rate r s at e h ∙ after-pairs
+        ∙ (λ j. thenRest (lookedUp trees) (sym ht j) n (pairsSaid (d j) (take (2 * n) out₁) s e)))
+        (p .kept) a (f .says);
+  }
 
 -- ---- the whole, over zeros
 drop-replicate : (k n : ℕ) (z : ℤ) → drop k (replicate n z) ≡ replicate (n - k) z

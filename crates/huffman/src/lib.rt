@@ -15,7 +15,8 @@ use standard::SlotRecord;
 use tables::bands::long_start;
 ghost use mathlib.Core.Path.{_≡_};
 ghost use Prim.Native.Nat.{_≤_};
-ghost use lib.ListN.{length};
+ghost use lib.IntN.{pos};
+ghost use lib.ListN.{length, replicate};
 ghost use lib.Seq.{paste};
 ghost use Rattle.standard.specs.Sizes.{perSlot, mostBigValues};
 ghost use Rattle.standard.specs.Bits.{between};
@@ -75,7 +76,7 @@ fn quad_table(count1: bool) -> usize
     32
 }
 
-// A slot's numbers into lent ones, which behind them stay as they were.
+// A slot's numbers into lent zeros, which behind them stay as they were.
 fn decode(
     trees: &[u16],
     rate: SampleRate,
@@ -85,20 +86,21 @@ fn decode(
     end: usize,
     out: &mut [i32; SLOT_NUMBERS],
 ) -> HuffmanAnswer
-    requires { ⌜ (r .«big_values» ≤ mostBigValues) × (length (now out) ≡ perSlot) ⌝ }
+    requires { ⌜ (r .«big_values» ≤ mostBigValues) × (now out ≡ replicate perSlot (pos 0)) ⌝ }
     ensures { λ a. ⌜ NumbersRead
         (numbersOf (lookedUp (now (trees .entry))) rate r (between (now (s .entry)) at end))
         0 (now (out .entry)) (now (out .exit)) a ⌝ }
 {
-    if end <= at {
-        return HuffmanAnswer::Counted { count: 0 };
-    }
     let g = regions_of(rate, r);
     let tables = r.table_select;
     let n = r.big_values as usize;
     match read_pairs(trees, g.first, g.second, tables, n, s, at, end, out) {
         Ended::Halted(why) => HuffmanAnswer::Uncounted(why),
         Ended::At { place } => {
+            // with no bits nothing was coded, though pairs of tables without codewords were read
+            if end <= at {
+                return HuffmanAnswer::Counted { count: 0 };
+            }
             read_quads(
                 trees,
                 quad_table(r.count1table_select),

@@ -1594,6 +1594,15 @@ published t = getD codes t silent
 unfoldable pub wordOf : ℕ → List Bool → Codeword
 wordOf t b = decode (published t) b
 
+-- whether a table has codewords at all, some of which take bits
+unfoldable pub anyBits : List Entry → Bool
+anyBits [] = false
+anyBits (entry v [] ∷ es) = anyBits es
+anyBits (entry v (x ∷ w) ∷ es) = true
+
+unfoldable pub hasCodewords : ℕ → Bool
+hasCodewords t = anyBits (published t)
+
 -- linbits: how many bits an escape has (Table B.7)
 unfoldable pub escapes : List ℕ
 escapes =

@@ -14,7 +14,7 @@ use Rattle.standard.specs.Codes.{wordOf}
 use Rattle.standard.specs.CodesLaws.{complete}
 use Rattle.standard.specs.Record.{shapeOf}
 use Rattle.standard.specs.Factors.{planOf, sourcesOf, planBits}
-use Rattle.standard.specs.Numbers.{Reader, numberIn, twoLast, twoFirst, twoOf, pairAfter, pairWord, pairOf, quadOf, Numbers, halted, got, prepend, thenPairs, pairs, thenQuads, quads, thenRest, numbersBy, regionsOf, numbersOf, quadWord, quadFirst, quadLast}
+use Rattle.standard.specs.Numbers.{Reader, numberIn, twoLast, twoFirst, twoOf, pairAfter, pairWord, pairOf, quadOf, Numbers, halted, got, prepend, thenPairs, pairs, thenQuads, quads, thenRest, numbersBy, regionsOf, numbersOf, quadWord, quadFirst, quadLast, quiet}
 use Rattle.standard.specs.Slots.{Outcome, stopped, holds, anyOf, withFactors, slotBy, slotOf}
 use Rattle.standard.specs.declared.SampleRate.{SampleRate}
 use Rattle.standard.specs.declared.Setting.{Setting}
@@ -137,9 +137,14 @@ module _ (ok : Refusal → Bool) (word : Reader) (allows : Allows ok word) where
   unfolding numbersBy ok-numbers
   by-ok r g b = rest-ok _ (r .«big_values») _ (pairs-ok _ 0 (r .«big_values») b)
 
+  quiet-ok : (q : Numbers) → ok-numbers q ≡ true → ok-numbers (quiet q) ≡ true
+  unfolding quiet ok-numbers
+  quiet-ok (halted k) e = e
+  quiet-ok (got vs b) e = refl
+
   numbers-ok : (rate : SampleRate) (r : SlotRecord) (b : List Bool) → ok-numbers (numbersOf word rate r b) ≡ true
   unfolding numbersOf ok-numbers
-  numbers-ok rate r [] = refl
+  numbers-ok rate r [] = quiet-ok (numbersBy word r (regionsOf rate r) []) (by-ok r (regionsOf rate r) [])
   numbers-ok rate r (a ∷ b) = by-ok r (regionsOf rate r) (a ∷ b)
 
   -- ---- with its factors

@@ -36,6 +36,7 @@ pub mod SideBytes
 pub mod SideLaws
 pub mod NumbersLaws
 pub mod RegionsLaws
+pub mod QuietLaws
 pub mod FactorsLaws
 pub mod SharingLaws
 pub mod HaltLaws

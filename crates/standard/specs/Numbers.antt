@@ -1,7 +1,7 @@
 -- A slot's numbers (11172-3, 2.4.1.7 and 2.4.2.7: big_values, count1, linbits, signs; 2.4.3.4), from exactly the bits after its factors.
 -- Readers tell how many bits they used; what is left is the rest after so many. `word` reads a codeword of a table: in the definition it is
 -- `wordOf`, the published code.
-use mathlib.Core.Bool.{Bool, true, false}
+use mathlib.Core.Bool.{Bool, true, false, _||_}
 use mathlib.Core.List.{List, [], _∷_, _++_}
 use Prim.Native.Nat.{ℕ, zero, suc, _+_, _-_, _*_, _/_, _%_}
 use lib.Dec.{ltb, leb, eqb}
@@ -10,7 +10,7 @@ use lib.ListN.{length, getD, take, drop, replicate}
 use Rattle.standard.specs.Sizes.{perSlot}
 use Rattle.standard.specs.Told.{pick}
 use Rattle.standard.specs.Bits.{value}
-use Rattle.standard.specs.Codes.{escapeWidth}
+use Rattle.standard.specs.Codes.{hasCodewords, escapeWidth}
 use Rattle.standard.specs.Bands.{longStart}
 use Rattle.standard.specs.Record.{shapeOf}
 use Rattle.standard.specs.declared.SampleRate.{SampleRate}
@@ -133,6 +133,14 @@ tableAt first second tables position =
     pick (ltb position first) (getD tables 0 0)
     (pick (ltb position second) (getD tables 1 0) (getD tables 2 0))
 
+abbrev pub tableOf : SampleRate → SlotRecord → ℕ → ℕ
+tableOf rate r = tableAt (regionsOf rate r .first) (regionsOf rate r .second) (r .«table_select»)
+
+-- whether one of n pairs from the k-th on falls in a table with codewords
+unfoldable pub anyCoded : (ℕ → ℕ) → ℕ → ℕ → Bool
+anyCoded table k zero = false
+anyCoded table k (suc n) = hasCodewords (table (2 * k)) || anyCoded table (suc k) n
+
 -- ---- many: refused for a reason, or the numbers and the bits left
 pub data Numbers : Type 0 where
   halted : Refusal → Numbers
@@ -173,9 +181,13 @@ numbersBy word r g b =
     thenRest word (quadTable (r .«count1table_select»)) (r .«big_values»)
     (pairs word (tableAt (g .first) (g .second) (r .«table_select»)) 0 (r .«big_values») b)
 
--- no bits: no numbers, whatever big_values says, as in the Rust
+-- with no bits the pairs are read as ever, and one with a codeword does not end; where all are of tables without one, nothing was coded
+unfoldable pub quiet : Numbers → Numbers
+quiet (halted k) = halted k
+quiet (got vs b) = got [] []
+
 unfoldable pub numbersOf : Reader → SampleRate → SlotRecord → List Bool → Numbers
-numbersOf word rate r [] = got [] []
+numbersOf word rate r [] = quiet (numbersBy word r (regionsOf rate r) [])
 numbersOf word rate r (a ∷ b) = numbersBy word r (regionsOf rate r) (a ∷ b)
 
 -- 576 numbers: those that were read, then zeros

@@ -15,7 +15,7 @@ use Rattle.standard.specs.Bits.{between, value, fieldAt}
 use Rattle.standard.specs.BitsLaws.{between-nil, between-cons, between-length, take-bits, value-lt}
 use Rattle.standard.specs.RowsLaws.{every, every-at, every-append}
 use Rattle.standard.specs.Codes.{Entry, entry, lowBits, pair, quad, starts, first, begun, decode, silent, table1, table2, table3, table5, table6, table7, table8, table9, table10, table11, table12, table13, table15, table16, table24, tableA, tableB, codes, published, wordOf, escapes, escapeWidth}
-use Rattle.standard.specs.Numbers.{Reader, escaped, magnitudeOf, signOf, signed, further, thenSign, numberIn, twoLast, twoFirst, twoOf, pairAfter, pairWord, pairOf, quadLast, quadFirst, quadWord, quadOf, quadTable, regionsOf, tableAt, Numbers, halted, got, prepend, thenPairs, pairs, thenQuads, quads, thenRest, numbersBy, numbersOf}
+use Rattle.standard.specs.Numbers.{Reader, escaped, magnitudeOf, signOf, signed, further, thenSign, numberIn, twoLast, twoFirst, twoOf, pairAfter, pairWord, pairOf, quadLast, quadFirst, quadWord, quadOf, quadTable, regionsOf, tableAt, Numbers, halted, got, prepend, thenPairs, pairs, thenQuads, quads, thenRest, numbersBy, numbersOf, quiet}
 use Rattle.standard.specs.declared.SampleRate.{SampleRate}
 use Rattle.standard.specs.declared.SlotRecord.{SlotRecord}
 use Rattle.standard.specs.declared.Refusal.{Refusal}
@@ -256,9 +256,11 @@ module _ (word : Reader) (t n : ℕ) where
 
 -- ---- a slot by place
 module _ (word : Reader) (rate : SampleRate) (r : SlotRecord) (s : List ℕ) (at e : ℕ) where
-  pub numbers-none : e ≤ at → numbersOf word rate r (between s at e) ≡ got [] []
+  pub numbers-none : e ≤ at → numbersOf word rate r (between s at e) ≡ quiet (numbersBy word r (regionsOf rate r) (between s at e))
   unfolding numbersOf
-  numbers-none h = ap (numbersOf word rate r) (between-nil s at e h)
+  numbers-none h =
+      let w = between-nil s at e h in
+      ap (numbersOf word rate r) w ∙ ap (λ (b : List Bool). quiet (numbersBy word r (regionsOf rate r) b)) (sym w)
 
   pub numbers-some : at < e → numbersOf word rate r (between s at e) ≡ numbersBy word r (regionsOf rate r) (between s at e)
   unfolding numbersOf
@@ -346,10 +348,15 @@ module _ (word : Reader) (fits : ReaderFits word) where
       then-rest (quadTable (r .«count1table_select»)) (r .«big_values») h (pairs word table 0 (r .«big_values») b)
       (pairs-bounded table 0 (r .«big_values») b)
 
+  quiet-bounded : (q : Numbers) → Gives (AtMost 576) (quiet q)
+  unfolding quiet every
+  quiet-bounded (halted k) = tt
+  quiet-bounded (got vs b) = record { count = omega arith; sizes = refl }
+
   -- a slot has at most 576 numbers, and none above 8,206 in magnitude
   pub numbers-bounded : (rate : SampleRate) (r : SlotRecord) → r .«big_values» ≤ 288 → (b : List Bool) → Gives (AtMost 576) (numbersOf word rate r b)
   unfolding numbersOf every
-  numbers-bounded rate r h [] = record { count = omega arith; sizes = refl }
+  numbers-bounded rate r h [] = quiet-bounded (numbersBy word r (regionsOf rate r) [])
   numbers-bounded rate r h (a ∷ b) = numbers-by r h (regionsOf rate r) (a ∷ b)
 
 -- ---- the published codes are such a reader: a codeword that the bits start with is no longer than they are, and stands for a byte's value

@@ -4,8 +4,9 @@
 use mathlib.Core.Path.{_≡_, refl, sym, ap, _∙_}
 use mathlib.Core.Bool.{Bool, true, false, _&&_}
 use mathlib.Core.Logic.{_↔_}
-use mathlib.Core.List.{List, [], _∷_, _++_, append-assoc, map}
+use mathlib.Core.List.{List, [], _∷_, _++_, append-assoc, append-nil, map}
 use Prim.Native.Nat.{ℕ, zero, suc, _+_, _-_, _*_, _≤_, _<_}
+use native.Mathlib.Nat.{add-zero}
 use native.Mathlib.Decide.{decLe}
 use native.Mathlib.Omega.{arith}
 use borrow.Author.Tests.{le-leb, lt-leb, lt-ltb, le-ltb}
@@ -18,10 +19,11 @@ use Rattle.standard.specs.Bits.{bits}
 use Rattle.standard.specs.BitsLaws.{bits-append}
 use Rattle.standard.specs.CopyLaws.{take-drop}
 use Rattle.standard.specs.Header.{isHeader, granules, channelCount}
+use Rattle.standard.specs.Record.{pastRecord}
 use Rattle.standard.specs.HaltLaws.{allowed, slot-allowed, isOther, not-missing}
 use Rattle.standard.specs.SideInfo.{isSide}
 use Rattle.standard.specs.Numbers.{padded}
-use Rattle.standard.specs.Slots.{Outcome, stopped, holds, slotOf, slotIn, thenSlots, slotsFrom, slotsOf, slotTold, lackingSlot, slotsTold, numbersAfter, numbersFrom, readSlots, SlotsRead, records, startOf, outcomeOf, partOf, ownOf}
+use Rattle.standard.specs.Slots.{Outcome, stopped, holds, isStopped, longOf, settingOf, mateOf, slotOf, slotIn, thenSlots, slotsFrom, slotsOf, slotTold, lackingSlot, slotsTold, numbersAfter, numbersFrom, readSlots, SlotsRead, records, startOf, outcomeOf, partOf, ownOf}
 use Rattle.standard.specs.declared.Setting.{Setting}
 use Rattle.standard.specs.declared.FrameHeader.{FrameHeader}
 use Rattle.standard.specs.declared.SlotRecord.{SlotRecord}
@@ -47,6 +49,13 @@ pub slotIn-read : (s : List ℕ) (at : ℕ) (g : Setting) (r : SlotRecord) (lost
     → slotIn s at g r lost old ≡ slotOf g r lost old (bits s at (r .«part2_3_length»))
 unfolding slotIn
 slotIn-read s at g r lost old h = picked _ (le-leb _ _ h)
+
+-- where a slot starts and its own length are where the next one starts
+pub start-next : (rs : List SlotRecord) (n : ℕ) → n < length rs → startOf n rs + getD rs n pastRecord .«part2_3_length» ≡ startOf (suc n) rs
+unfolding startOf
+start-next [] n h = absurd (omega arith)
+start-next (r ∷ rs) zero h = omega arith
+start-next (r ∷ rs) (suc n) h = omega (arith, start-next rs n (omega arith))
 
 module _ (h : FrameHeader) (i : SideInfo) where
   -- ---- missing exactly when
@@ -112,6 +121,34 @@ module _ (h : FrameHeader) (i : SideInfo) where
   same-outcome xs ys n found =
       elim (decLe (startOf (suc n) (records h i)) (8 * length xs))
       [ yes k ↦ same-from xs ys (records h i) n 0 [] (omega arith) | no k ↦ absurd (found (missing-from xs (records h i) n 0 [] (omega arith))) ]
+
+  -- ---- one slot of many, by its own place and record and its channel's slot in the granule before
+  abbrev slotBeside : List ℕ → ℕ → ℕ → SlotRecord → Outcome → Outcome
+  slotBeside s at n r mate = slotIn s at (settingOf h i n r) r (isStopped mate) (longOf mate)
+
+  nth-from : (s : List ℕ) (rs : List SlotRecord) (n at : ℕ) (done : List Outcome) → n < length rs
+      → getD (slotsFrom h i s at done rs) n (stopped MissingBits)
+      ≡ slotBeside s (at + startOf n rs) (length done + n) (getD rs n pastRecord) (mateOf h (done ++ take n (slotsFrom h i s at done rs)))
+  unfolding slotsFrom startOf thenSlots
+  nth-from s [] n at done l = absurd (omega arith)
+  nth-from s (r ∷ rs) zero at done l = λ j. slotBeside s (sym (add-zero at) j) (sym (add-zero (length done)) j) r (mateOf h (sym (append-nil done) j))
+  nth-from s (r ∷ rs) (suc n) at done l =
+      let o = slotBeside s at (length done) r (mateOf h done) in
+      let start : at + r .«part2_3_length» + startOf n rs ≡ at + (r .«part2_3_length» + startOf n rs) = omega arith in
+      let count : length (done ++ (o ∷ [])) + n ≡ length done + suc n = simp length-append (omega arith) in
+      nth-from s rs n (at + r .«part2_3_length») (done ++ (o ∷ [])) (omega arith)
+      ∙ (λ j. slotBeside s (start j) (count j) (getD rs n pastRecord)
+      (mateOf h (append-assoc done (o ∷ []) (take n (slotsFrom h i s (at + r .«part2_3_length») (done ++ (o ∷ [])) rs)) j)))
+
+  pub nth-outcome : (s : List ℕ) (n : ℕ) → n < length (records h i)
+      → outcomeOf h i s n
+      ≡ slotBeside s (startOf n (records h i)) n (getD (records h i) n pastRecord) (mateOf h (take n (slotsOf h i s)))
+  unfolding outcomeOf slotsOf
+  nth-outcome s n l =
+      let start : 0 + startOf n (records h i) ≡ startOf n (records h i) = omega arith in
+      let count : 0 + n ≡ n = omega arith in
+      nth-from s (records h i) n 0 [] l
+      ∙ (λ j. slotBeside s (start j) (count j) (getD (records h i) n pastRecord) (mateOf h (take n (slotsFrom h i s 0 [] (records h i)))))
 
 -- ---- the lent numbers
 pub padded-long : (vs : List ℤ) → 576 ≤ length (padded vs)

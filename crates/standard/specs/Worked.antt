@@ -14,7 +14,7 @@ use Rattle.standard.specs.Header.{bitrates, rates, versionOf, emphasisOf
 use Rattle.standard.specs.Record.{blockOf, preflagOf, longOf, switchedOf, recordIn, recordOf, absent}
 use Rattle.standard.specs.SideInfo.{thenRecords, recordsOf, thenSide, sideIn, sideFrom, sideOf, noSide}
 use Rattle.standard.specs.Factors.{planBy, planOf, group, groupsFrom, planBits, factorsFrom, longFactors, shortFactors}
-use Rattle.standard.specs.Numbers.{escaped, magnitudeOf, signOf, signed, further, thenSign, numberIn, twoLast, twoFirst, twoOf, pairAfter, pairWord, pairOf, quadLast, quadFirst, quadWord, quadOf, regionsBy, tableAt, prepend, thenPairs, pairs, thenQuads, quads, thenRest, numbersBy, numbersOf, padded}
+use Rattle.standard.specs.Numbers.{escaped, magnitudeOf, signOf, signed, further, thenSign, numberIn, twoLast, twoFirst, twoOf, pairAfter, pairWord, pairOf, quadLast, quadFirst, quadWord, quadOf, regionsBy, tableAt, prepend, thenPairs, pairs, thenQuads, quads, thenRest, numbersBy, quiet, numbersOf, padded}
 use Rattle.standard.specs.Slots.{Outcome, stopped, holds, isStopped, longOf as longFactorsOf, anyOf, withFactors, slotBy, slotOf, sharesOf, settingOf, alone, mateOf, slotIn, thenSlots, slotsFrom, slotsOf}
 use Rattle.standard.specs.Reservoir.{Kept, untouched, keeping, reaching, adding, turnOf}
 use Rattle.standard.specs.Frame.{Step, noStep, shortStep, fullStep, withTurn, withSide, withHeader, frameOf}
@@ -23,7 +23,7 @@ use Rattle.standard.specs.declared.SampleRate.{SampleRate}
 use Rattle.standard.specs.declared.SampleRate.the-variants.{Hz44100}
 use Rattle.standard.specs.declared.Shape.{Shape}
 use Rattle.standard.specs.declared.Shape.the-variants.{AllShort, LongThenShort}
-use Rattle.standard.specs.declared.Refusal.the-variants.{MissingBits, FactorOverrun, PairOverrun, ShortReservoir, ReservedVersion, ReservedLayer, OtherLayer, FreeBitrate, ForbiddenBitrate, ReservedRate, TooManyPairs, MixedBlock}
+use Rattle.standard.specs.declared.Refusal.the-variants.{MissingBits, FactorOverrun, LostShare, PairOverrun, ShortReservoir, ReservedVersion, ReservedLayer, OtherLayer, FreeBitrate, ForbiddenBitrate, ReservedRate, TooManyPairs, MixedBlock}
 use Rattle.standard.specs.declared.Refusal.{Refusal}
 use Rattle.standard.specs.declared.Verdict.{Verdict}
 use Rattle.standard.specs.declared.Verdict.the-variants.{Accepted, Refused}
@@ -61,7 +61,7 @@ reachingBack n = set frameF 4 n
 
 -- ---- a frame's step from its bytes and the reservoir's, and its parts
 unfoldable pub step : List ℕ → List ℕ → Step
-unfolding pick bitAt bits between valueFrom value field flag fieldAt member later place lowBits pair quad starts first begun decode silent table1 tableB codes published wordOf escapes escapeWidth longRows shortRows longStart shortStart slenRows slen1 slen2 rangeIn lowRange ordinaryLengths intensityLengths lowLengths longCounts shortCounts mixedCounts intensityLongCounts intensityShortCounts intensityMixedCounts lowCounts bitrates rates versionOf emphasisOf channelsOf fields lastBytes secondByte headerOf sameBitrate sameRate isHeader headerSize dataSize frameLength sideSize mainSize granules channelCount noHeader blockOf preflagOf longOf switchedOf recordIn recordOf absent thenRecords recordsOf thenSide sideIn sideFrom sideOf noSide planBy planOf group groupsFrom planBits factorsFrom longFactors shortFactors escaped magnitudeOf signOf signed further thenSign numberIn twoLast twoFirst twoOf pairAfter pairWord pairOf quadLast quadFirst quadWord quadOf regionsBy tableAt prepend thenPairs pairs thenQuads quads thenRest numbersBy numbersOf padded isStopped longFactorsOf anyOf withFactors slotBy slotOf sharesOf settingOf alone mateOf slotIn thenSlots slotsFrom slotsOf reaching adding turnOf noStep shortStep fullStep withTurn withSide withHeader frameOf
+unfolding pick bitAt bits between valueFrom value field flag fieldAt member later place lowBits pair quad starts first begun decode silent table1 tableB codes published wordOf escapes escapeWidth longRows shortRows longStart shortStart slenRows slen1 slen2 rangeIn lowRange ordinaryLengths intensityLengths lowLengths longCounts shortCounts mixedCounts intensityLongCounts intensityShortCounts intensityMixedCounts lowCounts bitrates rates versionOf emphasisOf channelsOf fields lastBytes secondByte headerOf sameBitrate sameRate isHeader headerSize dataSize frameLength sideSize mainSize granules channelCount noHeader blockOf preflagOf longOf switchedOf recordIn recordOf absent thenRecords recordsOf thenSide sideIn sideFrom sideOf noSide planBy planOf group groupsFrom planBits factorsFrom longFactors shortFactors escaped magnitudeOf signOf signed further thenSign numberIn twoLast twoFirst twoOf pairAfter pairWord pairOf quadLast quadFirst quadWord quadOf regionsBy tableAt prepend thenPairs pairs thenQuads quads thenRest numbersBy quiet numbersOf padded isStopped longFactorsOf anyOf withFactors slotBy slotOf sharesOf settingOf alone mateOf slotIn thenSlots slotsFrom slotsOf reaching adding turnOf noStep shortStep fullStep withTurn withSide withHeader frameOf
 step s old = frameOf s old
 
 unfoldable pub verdict : List ℕ → Verdict
@@ -95,13 +95,13 @@ plainTable =
     wholly (long 7) (read (negsuc 0 ∷ pos 0 ∷ [])) ∷
     wholly (long 3) (read (negsuc 0 ∷ pos 0 ∷ [])) ∷
     wholly (long 2) (stopped PairOverrun) ∷
-    wholly (long 0) (read []) ∷
+    -- a pair is promised, and there is no bit for its codeword; so it is where the factors leave none
+    wholly (long 0) (stopped PairOverrun) ∷
     wholly (long 16) (read (numbersF ++ pos 1 ∷ pos 1 ∷ pos 1 ∷ pos 1 ∷ [])) ∷
     ofMain frameF [] (stopped MissingBits ∷ []) ∷
     ofMain frameF (0x7A ∷ []) (read numbersF ∷ []) ∷
     wholly (long16 4) (stopped FactorOverrun) ∷
-    -- F's first five bits, 01111, are the second group of five factors, and leave none for numbers
-    wholly (long16 5) (holds (replicate 7 0 ++ replicate 4 1 ++ replicate 11 0) (replicate 39 0) []) ∷
+    wholly (long16 5) (stopped PairOverrun) ∷
     refusedFor (set frameF 2 0x04) FreeBitrate ∷
     refusedFor (set frameF 2 0xF4) ForbiddenBitrate ∷
     refusedFor (set frameF 2 0x1C) ReservedRate ∷
@@ -180,8 +180,28 @@ addedTable =
     (upFrom 1 36 ++ pos 37 ∷ pos 41 ∷ pos 45 ∷ pos 38 ∷ pos 42 ∷ pos 46 ∷ pos 39 ∷ pos 43 ∷ pos 47 ∷ pos 40 ∷ pos 44 ∷ pos 48 ∷ []) ∷
     []
 
+-- ---- and those of promised pairs without bits
+-- F with length 0, the first table 0, and the bytes of big_values and of the second table
+abbrev quietBy : ℕ → ℕ → List ℕ
+quietBy pairs second = set (set (set (long 0) 7 pairs) 10 0x00) 11 second
+
+-- granule 0 has too few bits for its factors; granule 1 has none, a sharing bit and a pair in table 1
+abbrev sideLost : List ℕ
+sideLost = 0x00 ∷ 0x00 ∷ 0x80 ∷ 0x00 ∷ 0x01 ∷ 0xA4 ∷ 0x20 ∷ 0x00 ∷ 0x00 ∷ 0x08 ∷ 0x00 ∷ 0x00 ∷ 0x74 ∷ 0x80 ∷ 0x10 ∷ 0x00 ∷ 0x01 ∷ []
+
+abbrev quietTable : List Row
+quietTable =
+    -- 40 pairs in table 0
+    wholly (quietBy 0xA3 0x00) (read []) ∷
+    -- tables 0 and 1, which change at 6: three pairs, and four
+    wholly (quietBy 0x0F 0x40) (read []) ∷
+    wholly (quietBy 0x13 0x40) (stopped PairOverrun) ∷
+    -- 22 comes first
+    with (frame1With sideLost (replicate 75 0x00)) (replicate 75 0x00) (stopped FactorOverrun ∷ stopped LostShare ∷ []) ∷
+    []
+
 abbrev pub table : List Row
-table = plainTable ++ addedTable
+table = plainTable ++ addedTable ++ quietTable
 
 -- F's slot from other main data than its own
 unfoldable pub slotsBy : List ℕ → List ℕ → List Outcome
@@ -263,8 +283,12 @@ added-so = (
   ),
 )
 
+quiet-so : AllSo IsSo quietTable
+unfolding step
+quiet-so = ((refl, refl, refl), ((refl, refl, refl), ((refl, refl, refl), ((refl, refl, refl), tt))))
+
 pub starred : AllSo IsSo table
-starred = all-append IsSo plainTable addedTable plain-so added-so
+starred = all-append IsSo (plainTable ++ addedTable) quietTable (all-append IsSo plainTable addedTable plain-so added-so) quiet-so
 
 -- ---- the other rows: after the frame that was refused by 13
 pub then-begin-11 : step (reachingBack 11) mainF .slots ≡ read numbersF ∷ []
