@@ -12,6 +12,7 @@ use borrow.Author.Tests.{leb-true}
 use lib.IntN.{ℤ, pos, natAbs}
 use denote.Ref.{now}
 use lib.ListN.{length, getD, take, replicate}
+use Rattle.standard.specs.Sizes.{perSlot}
 use Rattle.standard.specs.Told.{told}
 use Rattle.standard.specs.ToldLaws.{both-of, both, passed, clash}
 use Rattle.standard.specs.RefusalsLaws.{apart}
@@ -43,7 +44,7 @@ use Rattle.standard.specs.declared.SlotOutcome.the-variants.{Read}
 
 -- ---- a slot that was read: how many numbers, and how large each of its 576 is
 pub record Modest (count : ℕ) (part : List ℤ) : Type 0 where
-  pub at-most : count ≤ 576
+  pub at-most : count ≤ perSlot
   pub magnitudes : (j : ℕ) → natAbs (getD part j (pos 0)) ≤ 8206
 
 zeros-small : (n : ℕ) → every small (replicate n (pos 0)) ≡ true
@@ -53,7 +54,7 @@ zeros-small (suc n) = zeros-small n
 
 padded-small : (vs : List ℤ) → every small vs ≡ true → every small (padded vs) ≡ true
 unfolding padded
-padded-small vs e = every-append small vs (replicate (576 - length vs) (pos 0)) e (zeros-small (576 - length vs))
+padded-small vs e = every-append small vs (replicate (perSlot - length vs) (pos 0)) e (zeros-small (perSlot - length vs))
 
 take-small : (n : ℕ) (vs : List ℤ) → every small vs ≡ true → every small (take n vs) ≡ true
 unfolding every
@@ -70,17 +71,17 @@ unfolding slotTold ownOf
 outcome-modest (stopped r) k d s e = clash cc
 outcome-modest (holds long short vs) k d s e =
     let m : length vs ≡ k = cc in
-    record { at-most = omega (arith, s .count, m); magnitudes = each-small _ (take-small 576 (padded vs) (padded-small vs (s .sizes))) }
+    record { at-most = omega (arith, s .count, m); magnitudes = each-small _ (take-small perSlot (padded vs) (padded-small vs (s .sizes))) }
 
 -- of any outcomes that are small
 slot-modest : (os : List Outcome) {answers : List SlotAnswer} {d left : List ℤ} → Answered os answers d left
     → ((n : ℕ) → Small (getD os n (stopped MissingBits)))
-    → (n k : ℕ) → slotSaid answers n .outcome ≡ Read k → Modest k (partOf (576 * n) left)
+    → (n k : ℕ) → slotSaid answers n .outcome ≡ Read k → Modest k (partOf (perSlot * n) left)
 slot-modest os a s n k e =
     let b = by-said os a n e (λ z. clash cc) in
     subst (Modest k) (sym (stored-is os a n (b .0))) (outcome-modest (getD os n (stopped MissingBits)) k _ (s n) (b .1))
 
-pub slots-modest : (c : SlotsCall) (n k : ℕ) → slotSaid (c .answer .slots) n .outcome ≡ Read k → Modest k (partOf (576 * n) (slotsNumbersAfter c))
+pub slots-modest : (c : SlotsCall) (n k : ℕ) → slotSaid (c .answer .slots) n .outcome ≡ Read k → Modest k (partOf (perSlot * n) (slotsNumbersAfter c))
 slots-modest c = slot-modest (outcomesOf c) (slots-answered c) (each-slot Small tt c (λ m e. slot-small (slotsHeader c) (slotsInfo c) e (mainData c) m))
 
 -- the same of a frame's slots: side information that was read is such that bytes read to it
@@ -88,7 +89,7 @@ pub entire-known : {s : List ℕ} {h : FrameHeader} {i : SideInfo} → Bytes s �
 entire-known {s} {h} {i} b w = let k = header-known s h b (w .header) in (k, side-known h i s k (w .info))
 
 pub frame-modest : (c : FrameStep) → Bytes (frame c) → (n k : ℕ) → slotSaid (c .answer .slots) n .outcome ≡ Read k
-    → Modest k (partOf (576 * n) (numbersAfter c))
+    → Modest k (partOf (perSlot * n) (numbersAfter c))
 frame-modest c b = slot-modest (stepOf c .slots) (frame-answered c) (each-of-frame Small tt c (λ m h i bs w. slot-small h i (entire-known b w .1) bs m))
 
 -- ---- slot lengths: where the n-th slot ends, n counted from 1

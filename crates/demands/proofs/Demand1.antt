@@ -10,6 +10,7 @@ use mathlib.Core.List.{List, [], _++_}
 use Prim.Native.Nat.{ℕ, _*_}
 use lib.IntN.{ℤ}
 use lib.ListN.{length, take, drop}
+use Rattle.standard.specs.Sizes.{perSlot}
 use Rattle.standard.specs.Told.{Told, refused, told, toldOr, verdictOf}
 use Rattle.standard.specs.Refusals.{Answers}
 use Rattle.standard.specs.RefusalsLaws.{apart, unlike, why-is}
@@ -72,10 +73,10 @@ module _ (c : FrameStep) where
 
   -- a refused slot of a frame leaves its 576 numbers, and so does one that the frame lacks
   pub refused-slot : (n : ℕ) (k : Refusal) → slotSaid (c .answer .slots) n .outcome ≡ NotRead k
-      → partOf (576 * n) (numbersAfter c) ≡ partOf (576 * n) (numbers c)
+      → partOf (perSlot * n) (numbersAfter c) ≡ partOf (perSlot * n) (numbers c)
   refused-slot = refused-stays (stepOf c .slots) (frame-answered c)
 
-  pub lacking-slot : (n : ℕ) → slotSaid (c .answer .slots) n .outcome ≡ Lacking → partOf (576 * n) (numbersAfter c) ≡ partOf (576 * n) (numbers c)
+  pub lacking-slot : (n : ℕ) → slotSaid (c .answer .slots) n .outcome ≡ Lacking → partOf (perSlot * n) (numbersAfter c) ≡ partOf (perSlot * n) (numbers c)
   lacking-slot = said-lacking (stepOf c .slots) (frame-answered c)
 
 -- ---- slots from given main data
@@ -92,10 +93,10 @@ module _ (c : SlotsCall) where
   refused-slots k v = slots-unread (c .promised) k v
 
   pub refused-one : (n : ℕ) (k : Refusal) → slotSaid (c .answer .slots) n .outcome ≡ NotRead k
-      → partOf (576 * n) (slotsNumbersAfter c) ≡ partOf (576 * n) (slotsNumbers c)
+      → partOf (perSlot * n) (slotsNumbersAfter c) ≡ partOf (perSlot * n) (slotsNumbers c)
   refused-one = refused-stays (outcomesOf c) (slots-answered c)
 
-  pub lacking-one : (n : ℕ) → slotSaid (c .answer .slots) n .outcome ≡ Lacking → partOf (576 * n) (slotsNumbersAfter c) ≡ partOf (576 * n) (slotsNumbers c)
+  pub lacking-one : (n : ℕ) → slotSaid (c .answer .slots) n .outcome ≡ Lacking → partOf (perSlot * n) (slotsNumbersAfter c) ≡ partOf (perSlot * n) (slotsNumbers c)
   lacking-one = said-lacking (outcomesOf c) (slots-answered c)
 
 -- ---- the reorder, a slot's numbers, and the reservoir's own call

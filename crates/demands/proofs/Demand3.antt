@@ -12,6 +12,7 @@ use native.Mathlib.Decide.{decLt}
 use native.Mathlib.Omega.{arith}
 use lib.IntN.{ℤ}
 use lib.ListN.{length}
+use Rattle.standard.specs.Sizes.{perSlot, perFrame}
 use Rattle.standard.specs.ToldLaws.{clash}
 use Rattle.standard.specs.Told.{told, toldOr, verdictOf}
 use Rattle.standard.specs.Refusals.{numberOf}
@@ -46,14 +47,14 @@ module _ (h : FrameHeader) (i : SideInfo) where
     unfolding outcomeOf
     own-said n l = said-is (slotsOf h i s) f n (omega (arith, length-slots h i s))
 
-    pub own-stored : (n : ℕ) → n < length (records h i) → partOf (576 * n) left ≡ ownOf (outcomeOf h i s n) (partOf (576 * n) d)
+    pub own-stored : (n : ℕ) → n < length (records h i) → partOf (perSlot * n) left ≡ ownOf (outcomeOf h i s n) (partOf (perSlot * n) d)
     unfolding outcomeOf
     own-stored n l = stored-is (slotsOf h i s) f n (omega (arith, length-slots h i s))
 
     other-said : (n : ℕ) → length (records h i) ≤ n → slotSaid answers n ≡ lackingSlot
     other-said n l = lacking-said (slotsOf h i s) f n (omega (arith, length-slots h i s))
 
-    other-stored : (n : ℕ) → length (records h i) ≤ n → partOf (576 * n) left ≡ partOf (576 * n) d
+    other-stored : (n : ℕ) → length (records h i) ≤ n → partOf (perSlot * n) left ≡ partOf (perSlot * n) d
     other-stored n l = lacking-stays (slotsOf h i s) f n (omega (arith, length-slots h i s))
 
     missing : (n : ℕ) → n < length (records h i) → (slotSaid answers n .outcome ≡ NotRead MissingBits) ↔ (8 * length s < startOf (suc n) (records h i))
@@ -69,12 +70,12 @@ module _ (h : FrameHeader) (i : SideInfo) where
     outcomes : n < length (records h i) → outcomeOf h i (xs ++ ys) n ≡ outcomeOf h i xs n
     outcomes l = same-outcome h i xs ys n (λ e. found (ap (λ (t : SlotAnswer). t .outcome) (own-said xs f n l) ∙ says-missing (outcomeOf h i xs n) e))
 
-    stays : (slotSaid late n ≡ slotSaid early n) × (partOf (576 * n) gone ≡ partOf (576 * n) left)
+    stays : (slotSaid late n ≡ slotSaid early n) × (partOf (perSlot * n) gone ≡ partOf (perSlot * n) left)
     stays =
         elim (decLt n (length (records h i))) [
           | yes l ↦ (
             own-said (xs ++ ys) g n l ∙ ap slotTold (outcomes l) ∙ sym (own-said xs f n l),
-            own-stored (xs ++ ys) g n l ∙ ap (λ (o : Outcome). ownOf o (partOf (576 * n) d)) (outcomes l) ∙ sym (own-stored xs f n l),
+            own-stored (xs ++ ys) g n l ∙ ap (λ (o : Outcome). ownOf o (partOf (perSlot * n) d)) (outcomes l) ∙ sym (own-stored xs f n l),
           )
           | no l ↦ (
             other-said (xs ++ ys) g n (omega arith) ∙ sym (other-said xs f n (omega arith)),
@@ -83,7 +84,7 @@ module _ (h : FrameHeader) (i : SideInfo) where
         ]
 
 -- ---- over the promise
-module _ (c : SlotsCall) (enough : 2304 ≤ length (slotsNumbers c)) (header : isHeader (slotsHeader c) ≡ true)
+module _ (c : SlotsCall) (enough : perFrame ≤ length (slotsNumbers c)) (header : isHeader (slotsHeader c) ≡ true)
     (info : isSide (slotsHeader c) (slotsInfo c) ≡ true) where
   call-told : toldOr [] (readSlots (slotsHeader c) (slotsInfo c) (mainData c) (length (slotsNumbers c))) ≡ slotsOf (slotsHeader c) (slotsInfo c) (mainData c)
   unfolding toldOr
@@ -109,7 +110,7 @@ module _ (c : SlotsCall) (enough : 2304 ≤ length (slotsNumbers c)) (header : i
 -- two calls: from xs, and from xs with ys after it
 module _ (early late : SlotsCall) (ys : List ℕ) (same-header : slotsHeader late ≡ slotsHeader early) (same-info : slotsInfo late ≡ slotsInfo early)
     (more : mainData late ≡ mainData early ++ ys) (same-numbers : slotsNumbers late ≡ slotsNumbers early)
-    (enough : 2304 ≤ length (slotsNumbers early)) (header : isHeader (slotsHeader early) ≡ true)
+    (enough : perFrame ≤ length (slotsNumbers early)) (header : isHeader (slotsHeader early) ≡ true)
     (info : isSide (slotsHeader early) (slotsInfo early) ≡ true) where
   late-follows : Answered (slotsOf (slotsHeader early) (slotsInfo early) (mainData early ++ ys)) (late .answer .slots) (slotsNumbers early)
       (slotsNumbersAfter late)
@@ -124,20 +125,20 @@ module _ (early late : SlotsCall) (ys : List ℕ) (same-header : slotsHeader lat
   -- only a slot that was answered 20 may change: its answer with factors and count, and its numbers
   pub only-20-changes : (n : ℕ) → (slotSaid (early .answer .slots) n .outcome ≡ NotRead MissingBits → ⊥)
       → (slotSaid (late .answer .slots) n ≡ slotSaid (early .answer .slots) n)
-      × (partOf (576 * n) (slotsNumbersAfter late) ≡ partOf (576 * n) (slotsNumbersAfter early))
+      × (partOf (perSlot * n) (slotsNumbersAfter late) ≡ partOf (perSlot * n) (slotsNumbersAfter early))
   only-20-changes n found = stays (slotsHeader early) (slotsInfo early) (mainData early) ys (follows early enough header info) late-follows n found
 
   -- and any other answer is the definition's from the whole
   pub whole-answer : (n : ℕ) → n < length (records (slotsHeader early) (slotsInfo early))
       → (slotSaid (early .answer .slots) n .outcome ≡ NotRead MissingBits → ⊥)
       → (slotSaid (early .answer .slots) n ≡ slotTold (outcomeOf (slotsHeader early) (slotsInfo early) (mainData early ++ ys) n))
-      × (partOf (576 * n) (slotsNumbersAfter early)
-      ≡ ownOf (outcomeOf (slotsHeader early) (slotsInfo early) (mainData early ++ ys) n) (partOf (576 * n) (slotsNumbers early)))
+      × (partOf (perSlot * n) (slotsNumbersAfter early)
+      ≡ ownOf (outcomeOf (slotsHeader early) (slotsInfo early) (mainData early ++ ys) n) (partOf (perSlot * n) (slotsNumbers early)))
   whole-answer n l found =
       let f = follows early enough header info in
       let e = sym (outcomes (slotsHeader early) (slotsInfo early) (mainData early) ys f late-follows n found l) in (
         own-said (slotsHeader early) (slotsInfo early) (mainData early) f n l
             ∙ ap slotTold e,
         own-stored (slotsHeader early) (slotsInfo early) (mainData early) f n l
-            ∙ ap (λ (o : Outcome). ownOf o (partOf (576 * n) (slotsNumbers early))) e,
+            ∙ ap (λ (o : Outcome). ownOf o (partOf (perSlot * n) (slotsNumbers early))) e,
       )

@@ -10,6 +10,7 @@ use borrow.Author.Tests.{ltb-true}
 use lib.Dec.{ltb}
 use lib.IntN.{ℤ, pos}
 use lib.ListN.{length, getD, take, replicate, set, length-replicate}
+use Rattle.standard.specs.Sizes.{perSlot, perFrame, reservoirBytes}
 use Rattle.standard.specs.Told.{pick, Told, refused, told, toldOr, verdictOf}
 use Rattle.standard.specs.ToldLaws.{passed}
 use Rattle.standard.specs.RefusalsLaws.{answers-told}
@@ -58,18 +59,18 @@ use Rattle.standard.specs.declared.SlotOutcome.the-variants.{Read, NotRead, Lac
 
 -- ---- memory that is lent
 abbrev pub memory : ℕ → List ℕ
-memory x = replicate 4096 x
+memory x = replicate reservoirBytes x
 
 abbrev pub zeros : List ℤ
-zeros = replicate 2304 (pos 0)
+zeros = replicate perFrame (pos 0)
 
 abbrev pub none : Reservoir
 none = record { length = 0 }
 
-bytes-enough : (x : ℕ) → 4096 ≤ length (memory x)
+bytes-enough : (x : ℕ) → reservoirBytes ≤ length (memory x)
 bytes-enough x = rw length-replicate (omega arith)
 
-numbers-enough : 2304 ≤ length zeros
+numbers-enough : perFrame ≤ length zeros
 numbers-enough = rw length-replicate (omega arith)
 
 -- a frame's call from an empty reservoir comes to the frame's step
@@ -133,7 +134,7 @@ unfolding from-main slotsCall toldOr
 from-said main n = ap (λ (t : Told (List Outcome)). slotSaid (fourOf (toldOr [] t)) n) (read-is main)
 
 -- with the premises of Demand 3 on header, side information and numbers: from nothing the slot is missing, from a byte it is not
-pub slot-missing : (c : SlotsCall) × (2304 ≤ length (slotsNumbers c)) × (isHeader (slotsHeader c) ≡ true) × (isSide (slotsHeader c) (slotsInfo c) ≡ true)
+pub slot-missing : (c : SlotsCall) × (perFrame ≤ length (slotsNumbers c)) × (isHeader (slotsHeader c) ≡ true) × (isSide (slotsHeader c) (slotsInfo c) ≡ true)
     × (0 < length (records (slotsHeader c) (slotsInfo c))) × (slotSaid (c .answer .slots) 0 .outcome ≡ NotRead MissingBits)
     × (slotSaid (c .answer .slots) 1 .outcome ≡ Lacking)
 unfolding from-main slotsCall step slotsBy answersOf answerOf
@@ -150,7 +151,7 @@ slot-missing =
 
 pub early-and-late : (early late : SlotsCall) × (slotsHeader late ≡ slotsHeader early) × (slotsInfo late ≡ slotsInfo early)
     × (mainData late ≡ mainData early ++ 0x00 ∷ [])
-    × (slotsNumbers late ≡ slotsNumbers early) × (2304 ≤ length (slotsNumbers early)) × (isHeader (slotsHeader early) ≡ true)
+    × (slotsNumbers late ≡ slotsNumbers early) × (perFrame ≤ length (slotsNumbers early)) × (isHeader (slotsHeader early) ≡ true)
     × (isSide (slotsHeader early) (slotsInfo early) ≡ true) × (slotSaid (early .answer .slots) 0 .outcome ≡ Read 6)
 unfolding from-main slotsCall step slotsBy answersOf answerOf
 early-and-late = (
@@ -195,9 +196,9 @@ turn-refused = (turnCall [] none 0 [] (Refused UnfitMemory) (sym (ap turnVerdict
 -- ---- OnlyValid: F's call twice, over memory that differs past the reservoir's bytes
 pub two-memories : (frame (f 1) ≡ frame (f 0)) × (reservoir (f 1) ≡ reservoir (f 0)) × (numbers (f 1) ≡ numbers (f 0))
     × (take (reservoir (f 0) .length) (bytes (f 1)) ≡ take (reservoir (f 0) .length) (bytes (f 0)))
-    × (ltb (length (bytes (f 1))) 4096 ≡ ltb (length (bytes (f 0))) 4096)
+    × (ltb (length (bytes (f 1))) reservoirBytes ≡ ltb (length (bytes (f 0))) reservoirBytes)
 unfolding f a-frame frameStep
-two-memories = (refl, refl, refl, refl, ap (λ (n : ℕ). ltb n 4096) (length-replicate {A = ℕ} 4096 1 ∙ sym (length-replicate {A = ℕ} 4096 0)))
+two-memories = (refl, refl, refl, refl, ap (λ (n : ℕ). ltb n reservoirBytes) (length-replicate {A = ℕ} reservoirBytes 1 ∙ sym (length-replicate {A = ℕ} reservoirBytes 0)))
 
 -- ---- Records: a header, side information and a record that the checks accept
 pub header-checked : (c : IsHeaderCall) × (c .answer ≡ true)
@@ -263,7 +264,7 @@ counting = upFrom 1 48 ++ replicate 528 (pos 0)
 pub short-reordered : (mixed : Bool)
     → (c : ReorderCall) × (isHeader (reorderHeader c) ≡ true) × (reorderHeader c .rate ≡ Hz44100)
     × (isRecordUnder (reorderHeader c) (reorderRecord c) ≡ true)
-    × (shapeOf (reorderRecord c) ≡ shapeBy Short mixed) × (576 ≤ length (reorderNumbers c))
+    × (shapeOf (reorderRecord c) ≡ shapeBy Short mixed) × (perSlot ≤ length (reorderNumbers c))
     × (reorderNumbers c ≡ upFrom 1 48 ++ replicate 528 (pos 0))
 unfolding reorderCall header44 shortRecord verdictOf upFrom
 short-reordered mixed = (
@@ -277,7 +278,7 @@ short-reordered mixed = (
   refl,
 )
   where
-    enough : 576 ≤ length counting
+    enough : perSlot ≤ length counting
     enough = omega arith
 
     shape : (mixed : Bool) → shapeOf (shortRecord mixed) ≡ shapeBy Short mixed

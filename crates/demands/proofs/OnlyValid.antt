@@ -8,6 +8,7 @@ use lib.Dec.{ltb}
 use lib.IntN.{ℤ}
 use lib.ListN.{length, take, drop}
 use lib.Seq.{take-at}
+use Rattle.standard.specs.Sizes.{reservoirBytes}
 use Rattle.standard.specs.Reservoir.{Kept, untouched, keeping, bytesAfter as bytesKept, reservoirAfter}
 use Rattle.standard.specs.Slots.{slotsTold, numbersFrom}
 use Rattle.standard.specs.Frame.{Step, frameCall, FrameRead}
@@ -51,7 +52,7 @@ module _ {lent other left gone : List ℕ} {old before : Reservoir} {d nums befo
       )
 
 pub only-valid : (c b : FrameStep) → frame b ≡ frame c → reservoir b ≡ reservoir c → numbers b ≡ numbers c
-    → take (reservoir c .length) (bytes b) ≡ take (reservoir c .length) (bytes c) → ltb (length (bytes b)) 4096 ≡ ltb (length (bytes c)) 4096
+    → take (reservoir c .length) (bytes b) ≡ take (reservoir c .length) (bytes c) → ltb (length (bytes b)) reservoirBytes ≡ ltb (length (bytes c)) reservoirBytes
     → (c .answer ≡ b .answer) × (numbersAfter c ≡ numbersAfter b)
     × (take (c .answer .reservoir .length) (bytesAfter c) ≡ take (b .answer .reservoir .length) (bytesAfter b))
 only-valid c b same-frame same-reservoir same-numbers same-bytes fits =

@@ -1,13 +1,14 @@
 -- A loss never turns into silence: a slot without bits for its numbers (Huffman length 0) is read exactly when none of its pairs falls in a table with
 -- codewords, and then its count is 0 and its 576 numbers are zeros; with such a pair it is refused by 24. 22 comes before both.
 -- Proved over the promise of read_slots, from QuietLaws of `standard` (quiet-told).
-use mathlib.Core.Path.{_≡_, refl, sym, ap, subst, _∙_}
+use mathlib.Core.Path.{_≡_, refl, sym, ap, _∙_}
 use mathlib.Core.Bool.{true, _&&_}
 use mathlib.Core.List.{List, [], _∷_}
 use Prim.Native.Nat.{ℕ, suc, _*_, _≤_, _<_}
 use native.Mathlib.Omega.{arith}
 use lib.IntN.{ℤ, pos}
 use lib.ListN.{length, getD, take, replicate}
+use Rattle.standard.specs.Sizes.{perSlot, perFrame}
 use Rattle.standard.specs.Told.{pick}
 use Rattle.standard.specs.ToldLaws.{clash}
 use Rattle.standard.specs.Bits.{bits}
@@ -28,21 +29,21 @@ use Rattle.demands.proofs.Calls.{slotSaid, SlotsCall, slotsHeader, slot
 use Rattle.demands.proofs.Demand3.{follows, own-said, own-stored}
 
 -- a slot that is said to have no numbers left zeros
-zeros-own : (o : Outcome) (d : List ℤ) → slotTold o .outcome ≡ Read 0 → ownOf o d ≡ replicate 576 (pos 0)
+zeros-own : (o : Outcome) (d : List ℤ) → slotTold o .outcome ≡ Read 0 → ownOf o d ≡ replicate perSlot (pos 0)
 unfolding slotTold ownOf padded
 zeros-own (stopped r) d e = clash cc
 zeros-own (holds long short []) d e = refl
 zeros-own (holds long short (v ∷ vs)) d e = clash cc
 
-module _ (c : SlotsCall) (enough : 2304 ≤ length (slotsNumbers c)) (header : isHeader (slotsHeader c) ≡ true)
+module _ (c : SlotsCall) (enough : perFrame ≤ length (slotsNumbers c)) (header : isHeader (slotsHeader c) ≡ true)
     (info : isSide (slotsHeader c) (slotsInfo c) ≡ true) (n : ℕ) (has : n < length (records (slotsHeader c) (slotsInfo c))) where
   -- a count of 0 is 576 zeros
-  pub read-zeros : slotSaid (c .answer .slots) n .outcome ≡ Read 0 → partOf (576 * n) (slotsNumbersAfter c) ≡ replicate 576 (pos 0)
+  pub read-zeros : slotSaid (c .answer .slots) n .outcome ≡ Read 0 → partOf (perSlot * n) (slotsNumbersAfter c) ≡ replicate perSlot (pos 0)
   read-zeros e =
       let f = follows c enough header info in
       let o = outcomeOf (slotsHeader c) (slotsInfo c) (mainData c) n in
       own-stored (slotsHeader c) (slotsInfo c) (mainData c) f n has
-      ∙ zeros-own o (partOf (576 * n) (slotsNumbers c))
+      ∙ zeros-own o (partOf (perSlot * n) (slotsNumbers c))
       (sym (ap (λ (a : SlotAnswer). a .outcome) (own-said (slotsHeader c) (slotsInfo c) (mainData c) f n has)) ∙ e)
 
   -- the slot's record, and its channel's slot in the granule before

@@ -9,6 +9,7 @@ use native.Mathlib.Omega.{arith}
 use lib.IntN.{ℤ}
 use lib.ListN.{length, getD, take, drop}
 use lib.Seq.{drop-drop}
+use Rattle.standard.specs.Sizes.{perSlot, perFrame}
 use Rattle.standard.specs.Told.{Told, toldOr, refused}
 use Rattle.standard.specs.ToldLaws.{both-of, clash}
 use Rattle.standard.specs.Slots.{Outcome, stopped, holds, slotTold, lackingSlot, slotsTold, numbersFrom, readSlots, partOf, ownOf, outcomeOf}
@@ -42,30 +43,30 @@ not-lacking (holds long short vs) e = clash cc
 pub record Answered (os : List Outcome) (answers : List SlotAnswer) (d left : List ℤ) : Type 0 where
   pub says : answers ≡ slotsTold os
   pub stored : left ≡ numbersFrom 0 os d
-  pub room : 576 * length os ≤ length d
+  pub room : perSlot * length os ≤ length d
 
 module _ (os : List Outcome) {answers : List SlotAnswer} {d left : List ℤ} (a : Answered os answers d left) where
   -- a slot that the frame has
   pub said-is : (n : ℕ) → n < length os → slotSaid answers n ≡ slotTold (getD os n (stopped MissingBits))
   said-is n h = told-at answers os (a .says) n h
 
-  pub stored-is : (n : ℕ) → n < length os → partOf (576 * n) left ≡ ownOf (getD os n (stopped MissingBits)) (partOf (576 * n) d)
-  stored-is n h = ap (partOf (576 * n)) (a .stored) ∙ own-numbers os n d h (a .room)
+  pub stored-is : (n : ℕ) → n < length os → partOf (perSlot * n) left ≡ ownOf (getD os n (stopped MissingBits)) (partOf (perSlot * n) d)
+  stored-is n h = ap (partOf (perSlot * n)) (a .stored) ∙ own-numbers os n d h (a .room)
 
   -- a slot that the frame lacks, and numbers past the last slot
   pub lacking-said : (n : ℕ) → length os ≤ n → slotSaid answers n ≡ lackingSlot
   lacking-said n h = lacking-at answers os (a .says) n h
 
-  pub lacking-stays : (n : ℕ) → length os ≤ n → partOf (576 * n) left ≡ partOf (576 * n) d
+  pub lacking-stays : (n : ℕ) → length os ≤ n → partOf (perSlot * n) left ≡ partOf (perSlot * n) d
   unfolding partOf
   lacking-stays n h =
-      let k = 576 * n - 576 * length os in
-      let e : 576 * length os + k ≡ 576 * n = omega arith in
-      ap (λ (m : ℕ). take 576 (drop m left)) (sym e)
-      ∙ ap (take 576)
-      (sym (drop-drop k (576 * length os) left) ∙ ap (drop k) (ap (drop (576 * length os)) (a .stored) ∙ past-slots os d (a .room))
-      ∙ drop-drop k (576 * length os) d)
-      ∙ ap (λ (m : ℕ). take 576 (drop m d)) e
+      let k = perSlot * n - perSlot * length os in
+      let e : perSlot * length os + k ≡ perSlot * n = omega arith in
+      ap (λ (m : ℕ). take perSlot (drop m left)) (sym e)
+      ∙ ap (take perSlot)
+      (sym (drop-drop k (perSlot * length os) left) ∙ ap (drop k) (ap (drop (perSlot * length os)) (a .stored) ∙ past-slots os d (a .room))
+      ∙ drop-drop k (perSlot * length os) d)
+      ∙ ap (λ (m : ℕ). take perSlot (drop m d)) e
 
   -- what is said decides: lacking, or by the slot's own outcome
   pub by-said : (n : ℕ) {x : SlotOutcome} → slotSaid answers n .outcome ≡ x → (x ≡ Lacking → ⊥) → (n < length os)
@@ -76,12 +77,12 @@ module _ (os : List Outcome) {answers : List SlotAnswer} {d left : List ℤ} (a 
         | no l ↦ absurd (f (sym e ∙ ap (λ (t : SlotAnswer). t .outcome) (lacking-said n (omega arith))))
       ]
 
-  pub refused-stays : (n : ℕ) (k : Refusal) → slotSaid answers n .outcome ≡ NotRead k → partOf (576 * n) left ≡ partOf (576 * n) d
+  pub refused-stays : (n : ℕ) (k : Refusal) → slotSaid answers n .outcome ≡ NotRead k → partOf (perSlot * n) left ≡ partOf (perSlot * n) d
   refused-stays n k e =
       let b = by-said n e (λ z. clash cc) in
-      stored-is n (b .0) ∙ refused-own (getD os n (stopped MissingBits)) k (partOf (576 * n) d) (b .1)
+      stored-is n (b .0) ∙ refused-own (getD os n (stopped MissingBits)) k (partOf (perSlot * n) d) (b .1)
 
-  pub said-lacking : (n : ℕ) → slotSaid answers n .outcome ≡ Lacking → partOf (576 * n) left ≡ partOf (576 * n) d
+  pub said-lacking : (n : ℕ) → slotSaid answers n .outcome ≡ Lacking → partOf (perSlot * n) left ≡ partOf (perSlot * n) d
   said-lacking n e =
       elim (decLt n (length os)) [
         | yes l ↦ absurd (not-lacking (getD os n (stopped MissingBits)) (sym (ap (λ (t : SlotAnswer). t .outcome) (said-is n l)) ∙ e))
@@ -104,7 +105,7 @@ read-each : (P : Outcome → Type 0) (h : FrameHeader) (i : SideInfo) (s : List 
     → (isSide h i ≡ true → P (outcomeOf h i s n)) → P (getD (toldOr [] (readSlots h i s d)) n (stopped MissingBits))
 unfolding toldOr outcomeOf
 read-each P h i s d n none some =
-    elim (decLe 2304 d) [
+    elim (decLe perFrame d) [
       | yes l ↦ by (isHeader h && isSide h i) refl l
       | no l ↦ at (few-numbers h i s d (omega arith)) none
     ]
@@ -113,7 +114,7 @@ read-each P h i s d n none some =
         → P (getD (toldOr [] (readSlots h i s d)) n (stopped MissingBits))
     at e x = subst (λ (t : Told (List Outcome)). P (getD (toldOr [] t) n (stopped MissingBits))) (sym e) x
 
-    by : (b : Bool) → isHeader h && isSide h i ≡ b → 2304 ≤ d → P (getD (toldOr [] (readSlots h i s d)) n (stopped MissingBits))
+    by : (b : Bool) → isHeader h && isSide h i ≡ b → perFrame ≤ d → P (getD (toldOr [] (readSlots h i s d)) n (stopped MissingBits))
     by true e l = let k = both-of (isHeader h) (isSide h i) e in at (read-call h i s d l (k .0) (k .1)) (some (k .1))
     by false e l = at (made-up-call h i s d l e) none
 

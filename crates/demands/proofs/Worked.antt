@@ -6,6 +6,7 @@ use mathlib.Core.List.{List, [], _∷_, _++_}
 use Prim.Native.Nat.{ℕ, _≤_}
 use lib.IntN.{ℤ}
 use lib.ListN.{length, take}
+use Rattle.standard.specs.Sizes.{perSlot, perFrame, reservoirBytes}
 use Rattle.standard.specs.Told.{Told, told, toldOr, verdictOf}
 use Rattle.standard.specs.RefusalsLaws.{unlike}
 use Rattle.standard.specs.Written.{Bytes}
@@ -32,9 +33,9 @@ use Rattle.standard.specs.declared.Verdict.{Verdict}
 pub record Lent (c : FrameStep) (s old : List ℕ) : Type 0 where
   pub frame-is : frame c ≡ s
   pub old-is : take (reservoir c .length) (bytes c) ≡ old
-  pub bytes-enough : 4096 ≤ length (bytes c)
-  pub stated-fits : reservoir c .length ≤ 4096
-  pub numbers-enough : 2304 ≤ length (numbers c)
+  pub bytes-enough : reservoirBytes ≤ length (bytes c)
+  pub stated-fits : reservoir c .length ≤ reservoirBytes
+  pub numbers-enough : perFrame ≤ length (numbers c)
 
 -- what a row says of any call that has its bytes. A slot's answer and its numbers are told from its outcome by `slotsTold` and `numbersFrom`
 abbrev pub Promised : Row → Type 0
@@ -45,12 +46,12 @@ Promised (ofFrame s old v os k) =
 Promised (ofMain s main os) =
     (b : FrameStep) → Lent b s [] → Bytes s → b .answer .verdict ≡ Accepted → (c : SlotsCall) → slotsHeader c ≡ b .answer .header
     → slotsInfo c ≡ b .answer .info
-    → mainData c ≡ main → 2304 ≤ length (slotsNumbers c)
+    → mainData c ≡ main → perFrame ≤ length (slotsNumbers c)
     → (c .answer .verdict ≡ Accepted) × (c .answer .slots ≡ slotsTold os) × (slotsNumbersAfter c ≡ numbersFrom 0 os (slotsNumbers c))
 Promised (ofOrder rate k before after) =
     (c : ReorderCall) → isHeader (reorderHeader c) ≡ true → reorderHeader c .rate ≡ rate
     → isRecordUnder (reorderHeader c) (reorderRecord c) ≡ true
-    → shapeOf (reorderRecord c) ≡ k → 576 ≤ length (reorderNumbers c) → (rest : List ℤ) → reorderNumbers c ≡ before ++ rest
+    → shapeOf (reorderRecord c) ≡ k → perSlot ≤ length (reorderNumbers c) → (rest : List ℤ) → reorderNumbers c ≡ before ++ rest
     → (c .answer ≡ Accepted) × (take (length after) (reorderNumbersAfter c) ≡ after)
 
 -- ---- a frame

@@ -1594,7 +1594,7 @@ published t = getD codes t silent
 unfoldable pub wordOf : ℕ → List Bool → Codeword
 wordOf t b = decode (published t) b
 
--- whether a table has codewords at all, some of which take bits
+-- a table has codewords where some entry of it has bits
 unfoldable pub anyBits : List Entry → Bool
 anyBits [] = false
 anyBits (entry v [] ∷ es) = anyBits es
