@@ -1,5 +1,6 @@
 """What ours must print, from what the Rust printed. Each rule that changes something is one entry of docs/DIFFERENCES.md, named by its number; where
 no rule fits, Unexplained is raised."""
+import inputs
 
 # The Rust's errors that are refusals of ours.
 HEADER = {
@@ -267,13 +268,23 @@ def failed_by(lines, left, before, third):
     return [reach] + lines[2:], (13,)
 
 
+def unfit(lines, card, place):
+    """Entry 16: the CRC is told wrong by the oracle's division; here by a table of bytes, so that no one of the two is taken at its word."""
+    need(card[place + 1] % 2 == 0 and not lines[0].startswith('failed %d header' % place), 'there is no CRC')
+    need(inputs.crc(card[place:]) != int.from_bytes(card[place + 4:place + 6], 'big'), 'the CRC fits')
+    return [row('refused', (place, 16))]
+
+
 def expected(lines, mended, card, place, before):
     """Our lines, and the entries by which the Rust's differ from them. lines: the oracle's of one try; mended: those after `mended`, or None; card, place:
     the card's bytes and where in them the try is; before: the reservoir's length before it."""
     left = len(card) - place
+    if lines[-1] == 'unfit':
+        return unfit(lines, card, place), (16,)
     if lines[0].startswith('failed'):
         return failed(lines, left, before, card[place + 2] if left > 2 else 0)
     f = Frame(mended or lines)
+    need(not f.header[1] or inputs.crc(card[place:]) == int.from_bytes(card[place + 4:place + 6], 'big'), 'the CRC does not fit')
     if not mended and f.failure is None and not any(f.side[1:]) and not any(l.startswith(('alone', 'reordered')) for l in lines):
         need(f.length <= left, 'the Rust reads bytes that are not there')
         return lines, ()

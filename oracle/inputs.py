@@ -26,11 +26,45 @@ SMALLEST = (
     (13, 'FFF314C0 010040074800080001 7A', 10),
     (14, 'FFF314C0 000040074800080 1F9 7A', 10),
     (15, 'FFF314C0 000000074800080001 7A', 10),
+    (16, 'FFF214C0 0000 000040074800080001 7A', 8),
 )
 
 
 def smallest():
     return [bytes.fromhex(text.replace(' ', '')) + bytes(zeros) for _, text, zeros in SMALLEST]
+
+
+def side_size(b):
+    mono, one = b[3] >> 6 == 3, b[1] >> 3 & 3 == 3
+    return (17 if mono else 32) if one else (9 if mono else 17)
+
+
+def by_table():
+    table = []
+    for n in range(256):
+        v = n << 8
+        for _ in range(8):
+            v = v << 1 ^ (0x18005 if v & 0x8000 else 0)
+        table.append(v)
+    return table
+
+
+TABLE = by_table()
+
+
+def crc(b):
+    """The CRC that fits a frame's bytes."""
+    v = 0xFFFF
+    for x in b[2:4] + b[6:6 + side_size(b)]:
+        v = (v << 8 & 0xFF00) ^ TABLE[v >> 8 ^ x]
+    return v
+
+
+def checked(b):
+    """A frame's bytes with the CRC that fits, where it has one."""
+    if frame_length(b) is None or b[1] % 2:
+        return b
+    return b[:4] + crc(b).to_bytes(2, 'big') + b[6:]
 
 
 def read(path):
@@ -106,18 +140,19 @@ def frame(rng, version=1, rate=0, kbps=13, mode=3, extension=0, crc=False, begin
     head = b.bytes()
     size = frame_length(head) - len(head)
     body = rng.randbytes(size) if main is None else (main + bytes(size))[:size]
-    return head + body
+    return checked(head + body)
 
 
 def headers():
-    """Every second and third byte with several fourth bytes; every fourth byte with some second and third ones. A frame that is accepted is there in full."""
+    """Every second and third byte with several fourth bytes; every fourth byte with some second and third ones. A frame that is accepted is there in full,
+    with a CRC that fits."""
     out = []
     some = (0x00, 0x44, 0x51, 0x6B, 0x80, 0xC0, 0xC2, 0xF7)
     for b2 in range(256):
         for b3 in range(256):
             for b4 in range(256) if b2 in (0xF3, 0xFA, 0xE2) and b3 in (0x14, 0x92, 0xE8) else some:
                 head = bytes((255, b2, b3, b4))
-                out.append(head + bytes(frame_length(head) - 4 if frame_length(head) else 2))
+                out.append(checked(head + bytes(frame_length(head) - 4 if frame_length(head) else 2)))
     out += [bytes((b1, 0xF3, 0x14, 0xC0)) + F[4:] for b1 in range(256)]
     return out
 
@@ -135,7 +170,7 @@ def chosen(all_streams):
         'short': pick('m25-12000-mono-8.mp3', lambda f: f[9] & 1 and f[10] >> 6 == 2),
         'allshort': pick('m2-24000-allshort.mp3', lambda f: True),
         'intensity': pick('gen-25-8000-008.mp3', joint),
-        'crc': pick('gen-2-24000-004.mp3', lambda f: not f[1] & 1),
+        'crc': pick('m2-22050-vbr4-crc.mp3', lambda f: not f[1] & 1),
         'stereo': pick('m1-44100-allshort.mp3', lambda f: True),
         'mono': pick('m1-44100-mono-32.mp3', lambda f: True),
     }

@@ -34,6 +34,7 @@ static const char *name_of(unsigned refusal) {
     case FRONT_END_FORBIDDEN_BITRATE: return "forbidden bitrate";
     case FRONT_END_RESERVED_RATE: return "reserved rate";
     case FRONT_END_RESERVED_EMPHASIS: return "reserved emphasis";
+    case FRONT_END_WRONG_CRC: return "the CRC does not fit";
     case FRONT_END_TOO_MANY_PAIRS: return "too many pairs";
     case FRONT_END_FORBIDDEN_BLOCK: return "forbidden block";
     case FRONT_END_MIXED_BLOCK: return "mixed short block at 8 kHz";

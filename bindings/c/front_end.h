@@ -53,6 +53,7 @@ enum {
     FRONT_END_FORBIDDEN_BITRATE = 8,  /* bitrate field 15 */
     FRONT_END_RESERVED_RATE = 15,     /* sampling field 3 */
     FRONT_END_RESERVED_EMPHASIS = 9,  /* emphasis 2 */
+    FRONT_END_WRONG_CRC = 16,         /* the frame has a CRC, and it is not that of the header's last two bytes and the side information */
     FRONT_END_TOO_MANY_PAIRS = 10,    /* big_values above 288 */
     FRONT_END_FORBIDDEN_BLOCK = 11,   /* window switching with block type 0 */
     FRONT_END_MIXED_BLOCK = 12,       /* a mixed short block at 8 kHz, where its bands do not meet */

@@ -360,9 +360,37 @@ fn failed(place: usize, stage: &str, why: Failure, advance: usize) -> Tried {
     Tried { text, advance, frame: false }
 }
 
-/// The Rust on these bytes. After a failure the reservoir is what docs/RULES.md says that it is, and not what the Rust left,
-/// so that what follows can be compared; the length that the Rust left is printed.
+/// Whether the side information is there and the CRC does not fit, by the polynomial division of 11172-3: the covered bits with sixteen zeros after
+/// them, the first sixteen turned, divided by x^16 + x^15 + x^2 + 1. The Rust skips the word.
+fn unfit(h: &FrameHeader, bytes: &[u8]) -> bool {
+    let end = 6 + h.side_data_len();
+    if !h.crc || bytes.len() < end {
+        return false;
+    }
+    let covered = [&bytes[2..4], &bytes[6..end], &[0, 0]].concat();
+    let rest = (0..8 * covered.len()).fold(0u32, |rest, i| {
+        let bit = covered[i / 8] >> (7 - i % 8) & 1 ^ (i < 16) as u8;
+        let next = rest << 1 | u32::from(bit);
+        if next >> 16 == 1 { next ^ 0x18005 } else { next }
+    });
+    rest != field(bytes, 32, 16) as u32
+}
+
+/// The Rust on these bytes; where the CRC does not fit, on a copy of the reservoir, as docs/RULES.md has such a frame refused.
 pub fn try_at(place: usize, bytes: &[u8], reservoir: &mut Vec<u8>) -> Tried {
+    let mut rest = bytes;
+    match caught(|| decoder::read_frame_header(&mut rest)) {
+        Ok(h) if unfit(&h, bytes) => {
+            let tried = try_fit(place, bytes, &mut reservoir.clone());
+            Tried { text: tried.text + "unfit\n", advance: 1, frame: false }
+        }
+        _ => try_fit(place, bytes, reservoir),
+    }
+}
+
+/// After a failure the reservoir is what docs/RULES.md says that it is, and not what the Rust left, so that what follows can be compared; the length that
+/// the Rust left is printed.
+fn try_fit(place: usize, bytes: &[u8], reservoir: &mut Vec<u8>) -> Tried {
     let mut rest = bytes;
     let h = match caught(|| decoder::read_frame_header(&mut rest)) {
         Ok(h) => h,

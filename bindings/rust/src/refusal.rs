@@ -61,6 +61,7 @@ refusals! {
     /// Reorder: the frame has no slot of that number.
     MadeUpRecord = 14, "no such slot";
     ReservedRate = 15, "reserved sampling rate";
+    WrongCrc = 16, "the CRC does not fit";
     MissingBits = 20, "the slot's bits end beyond the main data";
     FactorOverrun = 21, "scale factors longer than the slot";
     LostShare = 22, "scale factors shared with a slot that was refused";

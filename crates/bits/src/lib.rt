@@ -16,7 +16,7 @@ pub fn bit(s: &[u8], at: usize) -> bool
 }
 
 // A byte; 0 past the end.
-fn byte(s: &[u8], i: usize) -> u32
+pub fn byte(s: &[u8], i: usize) -> u32
     ensures { λ r. ⌜ (r ≡ getD (now (s .entry)) i 0) × (r < 256) ⌝ }
 {
     if i < s.len() {

@@ -12,6 +12,7 @@ use Rattle.standard.specs.Refusals.{toldHeader}
 use Rattle.standard.specs.RefusalsLaws.{why-is, unlike}
 use Rattle.standard.specs.Written.{Bytes}
 use Rattle.standard.specs.Header.{headerOf, isHeader, headerSize, sideSize, frameLength}
+use Rattle.standard.specs.SideInfo.{neededFrom}
 use Rattle.standard.specs.Frame.{Step, frameOf}
 use Rattle.standard.specs.FrameLaws.{call-fits}
 use Rattle.standard.specs.Needs.{headerNeeds, frameNeeds, FirstAbsent}
@@ -42,10 +43,10 @@ header-absent-bytes c n =
     let is = ap verdictOf (c .promised) in
     (λ e. law .0 (sym is ∙ ap (λ (a : HeaderAnswer). verdictOf (toldHeader a)) e), λ a. none-is (c .answer) (is ∙ law .1 a))
 
--- ---- side information under a header that bytes read to: the header's own bytes are not needed
+-- ---- side information under a header that bytes read to: of the header's own bytes those are needed that a CRC covers, and this
 pub side-absent-bytes : (c : SideInfoCall) (n : ℕ) → isHeader (sideHeader c) ≡ true
     → (c .answer .verdict ≡ Refused (AbsentBytes n))
-    ↔ FirstAbsent (headerSize (sideHeader c)) (headerSize (sideHeader c) + sideSize (sideHeader c)) (sideFrame c) n
+    ↔ FirstAbsent (neededFrom (sideHeader c .crc) (headerSize (sideHeader c))) (headerSize (sideHeader c) + sideSize (sideHeader c)) (sideFrame c) n
 side-absent-bytes c n known = same-verdict (c .promised .verdict) (side-absent (sideHeader c) known (sideFrame c) n)
 
 -- ---- a frame, with enough memory lent

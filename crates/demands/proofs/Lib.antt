@@ -9,6 +9,7 @@ pub mod Demand2
 pub mod Demand3
 pub mod Silence
 pub mod Absent
+pub mod Flips
 pub mod OnlyValid
 pub mod Unique
 pub mod Records

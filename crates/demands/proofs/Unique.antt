@@ -3,6 +3,7 @@
 -- crate. Printed by scripts/catalogue from the functions' signatures, but for the functions of `bit_reader` over a reader.
 pub mod Bits
 pub mod BitReader
+pub mod Crc
 pub mod LentBytes
 pub mod Tables
 pub mod Codes

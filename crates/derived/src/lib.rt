@@ -285,6 +285,7 @@ pub fn number_of(why: Refusal) -> u8
         Refusal::ForbiddenBitrate => 8,
         Refusal::ReservedRate => 15,
         Refusal::ReservedEmphasis => 9,
+        Refusal::WrongCrc => 16,
         Refusal::TooManyPairs => 10,
         Refusal::ForbiddenBlock => 11,
         Refusal::MixedBlock => 12,

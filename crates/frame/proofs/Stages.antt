@@ -31,7 +31,7 @@ asked x false e = apart e
 -- side information is read only under a header that some bytes read to
 pub side-header : (h : FrameHeader) (i : SideInfo) (s : List ℕ) → sideOf h s ≡ told i → isHeader h ≡ true
 unfolding sideOf
-side-header h i s e = asked (sideFrom (isMpeg1 (h .version)) (isTwo (h .channels)) (isSlow (h .rate)) (headerSize h) s) (isHeader h) e
+side-header h i s e = asked (sideFrom (h .crc) (isMpeg1 (h .version)) (isTwo (h .channels)) (isSlow (h .rate)) (headerSize h) s) (isHeader h) e
 
 pub parts : (h : FrameHeader) → isHeader h ≡ true → headerSize h + sideSize h + mainSize h ≡ frameLength h
 unfolding frameLength

@@ -1,23 +1,24 @@
 -- A frame's side information by its layout: where its parts stand among the frame's bits, and what the slots' records decide.
 use mathlib.Core.Path.{_≡_, refl, sym, ap, _∙_}
-use mathlib.Core.Bool.{Bool, true, false}
+use mathlib.Core.Bool.{Bool, true, false, not, _&&_}
 use mathlib.Core.List.{List, _++_}
 use Prim.Native.Nat.{ℕ, _+_, _-_, _*_, _≤_, _<_}
 use native.Mathlib.Omega.{arith}
 use borrow.Author.Tests.{lt-ltb, le-ltb}
 use lib.ListN.{length, take, drop, replicate}
-use Rattle.standard.specs.Told.{Told, refused, told}
+use Rattle.standard.specs.Told.{Told, refused, told, pick}
 use Rattle.standard.specs.ToldLaws.{picked, passed, told-is}
 use Rattle.standard.specs.RefusalsLaws.{apart, one-reason}
 use Rattle.standard.specs.Bits.{bits, field, fieldAt}
 use Rattle.standard.specs.BitsLaws.{one-le, drop-bits, take-bits, field-bits}
 use Rattle.standard.specs.Header.{isHeader, isMpeg1, isTwo, isSlow, headerSize, sideBytes}
+use Rattle.standard.specs.Crc.{crcFits}
 use Rattle.standard.specs.Record.{recordWidth}
-use Rattle.standard.specs.SideInfo.{beginWidth, sharesAt, shareCount, slotCount, recordsOf, thenSide, absentFrom, sideIn, sideFrom, sideOf}
+use Rattle.standard.specs.SideInfo.{beginWidth, sharesAt, shareCount, slotCount, recordsOf, thenSide, neededFrom, absentFrom, sideIn, sideFrom, sideOf}
 use Rattle.standard.specs.declared.FrameHeader.{FrameHeader}
 use Rattle.standard.specs.declared.SlotRecord.{SlotRecord}
 use Rattle.standard.specs.declared.Refusal.{Refusal}
-use Rattle.standard.specs.declared.Refusal.the-variants.{AbsentBytes, MadeUpRecord}
+use Rattle.standard.specs.declared.Refusal.the-variants.{AbsentBytes, MadeUpRecord, WrongCrc}
 use Rattle.standard.specs.declared.Verdict.{Verdict}
 use Rattle.standard.specs.declared.Verdict.the-variants.{Accepted, Refused}
 use Rattle.record_check.specs.declared.layout.Layout.{Layout}
@@ -123,17 +124,35 @@ module _ (mpeg1 two slow : Bool) (s : List ℕ) (at : ℕ) where
         })) (sym e)
 
 -- ---- from the frame's bytes
-module _ (mpeg1 two slow : Bool) (from : ℕ) (s : List ℕ) {l : Layout} (e : l ≡ layoutOf mpeg1 two) where
+module _ (crc mpeg1 two slow : Bool) (from : ℕ) (s : List ℕ) {l : Layout} (e : l ≡ layoutOf mpeg1 two) where
   size-is : from + l .size ≡ from + sideBytes mpeg1 two
   size-is = ap (λ (k : Layout). from + k .size) e
 
-  pub side-short : length s < from + l .size → sideFrom mpeg1 two slow from s ≡ refused (AbsentBytes (absentFrom from (length s)))
+  pub side-short : length s < from + l .size → sideFrom crc mpeg1 two slow from s ≡ refused (AbsentBytes (absentFrom (neededFrom crc from) (length s)))
   unfolding sideFrom
   side-short h = picked _ (lt-ltb (length s) (from + sideBytes mpeg1 two) (rw size-is at h))
 
-  pub side-whole : from + l .size ≤ length s → sideFrom mpeg1 two slow from s ≡ sideIn mpeg1 two slow (bits s (8 * from) (8 * sideBytes mpeg1 two))
-  unfolding sideFrom
-  side-whole h = passed _ (le-ltb (length s) (from + sideBytes mpeg1 two) (rw size-is at h))
+  module _ (h : from + l .size ≤ length s) where
+    abbrev wrong : Bool
+    wrong = crc && not (crcFits s (from + sideBytes mpeg1 two))
+
+    checked : sideFrom crc mpeg1 two slow from s ≡ pick wrong (refused WrongCrc) (sideIn mpeg1 two slow (bits s (8 * from) (8 * sideBytes mpeg1 two)))
+    unfolding sideFrom
+    checked = passed _ (le-ltb (length s) (from + sideBytes mpeg1 two) (rw size-is at h))
+
+    module _ {b : Bool} (own : b ≡ (crc && not (crcFits s (from + l .size)))) where
+      wrong-is : wrong ≡ b
+      wrong-is = ap (λ (end : ℕ). crc && not (crcFits s end)) (sym size-is) ∙ sym own
+
+      pub side-wrong : b ≡ true → sideFrom crc mpeg1 two slow from s ≡ refused WrongCrc
+      side-wrong p = checked ∙ picked _ (wrong-is ∙ p)
+
+      pub side-whole : b ≡ false → sideFrom crc mpeg1 two slow from s ≡ sideIn mpeg1 two slow (bits s (8 * from) (8 * sideBytes mpeg1 two))
+      side-whole p = checked ∙ passed _ (wrong-is ∙ p)
+
+pub needed-small : (crc : Bool) {from n : ℕ} → n ≡ neededFrom crc from → from ≤ 8 → n < 65536
+needed-small true e h = omega arith
+needed-small false e h = omega arith
 
 -- ---- under a header
 pub header-small : (h : FrameHeader) {n : ℕ} → n ≡ headerSize h → n ≤ 8
@@ -147,6 +166,6 @@ module _ (h : FrameHeader) (s : List ℕ) {b : Bool} (e : b ≡ isHeader h) wher
 
   pub side-under : {from : ℕ} {mpeg1 two slow : Bool} → b ≡ true → from ≡ headerSize h → mpeg1 ≡ isMpeg1 (h .version) → two ≡ isTwo (h .channels)
       → slow ≡ isSlow (h .rate)
-      → sideOf h s ≡ sideFrom mpeg1 two slow from s
+      → sideOf h s ≡ sideFrom (h .crc) mpeg1 two slow from s
   unfolding sideOf
-  side-under f p q r t = picked _ (sym e ∙ f) ∙ (λ j. sideFrom (sym q j) (sym r j) (sym t j) (sym p j) s)
+  side-under f p q r t = picked _ (sym e ∙ f) ∙ (λ j. sideFrom (h .crc) (sym q j) (sym r j) (sym t j) (sym p j) s)

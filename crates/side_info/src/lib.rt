@@ -27,8 +27,9 @@ pub fn read_side_info(h: FrameHeader, frame: &[u8]) -> SideInfoAnswer
     let version = h.version;
     let channels = h.channels;
     let rate = h.rate;
+    let crc = h.crc;
     let from = header_size(h);
     let mpeg1 = is_mpeg1(version);
     let two = is_two(channels);
-    read_after(frame, from, mpeg1, two, is_slow(rate))
+    read_after(frame, crc, from, mpeg1, two, is_slow(rate))
 }

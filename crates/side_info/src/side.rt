@@ -3,21 +3,24 @@ use crate::record::absent_record;
 use crate::slot_records::read_records;
 use crate::words::word;
 use bits::bit;
+use crc::FIRST_COVERED;
+use crc::fits;
 use record_check::layout::layout_of;
 use standard::Refusal;
 use standard::SideInfo;
 use standard::SideInfoAnswer;
 use standard::Verdict;
 ghost use mathlib.Core.Path.{_≡_};
-ghost use mathlib.Core.Bool.{false};
+ghost use mathlib.Core.Bool.{false, not, _&&_};
 ghost use mathlib.Core.List.{_++_};
 ghost use Prim.Native.Nat.{_-_, _*_, _≤_, _<_};
 ghost use lib.ListN.{replicate};
 ghost use Rattle.standard.specs.Told.{Told, refused};
 ghost use Rattle.standard.specs.Refusals.{Answers};
 ghost use Rattle.standard.specs.Bits.{bits};
+ghost use Rattle.standard.specs.Crc.{crcFits};
 ghost use Rattle.standard.specs.Header.{sideBytes};
-ghost use Rattle.standard.specs.SideInfo.{noSide, absentFrom, sideIn, sideFrom};
+ghost use Rattle.standard.specs.SideInfo.{noSide, neededFrom, absentFrom, sideIn, sideFrom};
 
 // A refusal beside blank side information.
 pub fn no_side(why: Refusal) -> SideInfoAnswer
@@ -87,21 +90,46 @@ fn absent_from(from: usize, n: usize) -> u16
     n as u16
 }
 
+// The first byte that is needed, after a header of so many bytes.
+fn needed_from(crc: bool, from: usize) -> usize
+    ensures { λ r. ⌜ r ≡ neededFrom crc from ⌝ }
+{
+    if crc {
+        return FIRST_COVERED;
+    }
+    from
+}
+
+// Whether there is a CRC that does not fit.
+fn fails(frame: &[u8], crc: bool, end: usize) -> bool
+    ensures { λ r. ⌜ r ≡ (crc && not (crcFits (now (frame .entry)) end)) ⌝ }
+{
+    if crc {
+        return !fits(frame, end);
+    }
+    false
+}
+
 // The side information after a header of so many bytes.
 pub(crate) fn read_after(
     frame: &[u8],
+    crc: bool,
     from: usize,
     mpeg1: bool,
     two: bool,
     slow: bool,
 ) -> SideInfoAnswer
     requires { ⌜ from ≤ 8 ⌝ }
-    ensures { λ r. ⌜ Answers noSide (r .verdict) (r .info) (sideFrom mpeg1 two slow from (now (frame .entry))) ⌝ }
+    ensures { λ r. ⌜ Answers noSide (r .verdict) (r .info) (sideFrom crc mpeg1 two slow from (now (frame .entry))) ⌝ }
 {
     let l = layout_of(mpeg1, two);
-    if frame.len() < from + l.size {
-        let offset = absent_from(from, frame.len());
+    let end = from + l.size;
+    if frame.len() < end {
+        let offset = absent_from(needed_from(crc, from), frame.len());
         return no_side(Refusal::AbsentBytes { offset });
+    }
+    if fails(frame, crc, end) {
+        return no_side(Refusal::WrongCrc);
     }
     read_bits(frame, 8 * from, mpeg1, two, slow)
 }

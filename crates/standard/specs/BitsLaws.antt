@@ -149,11 +149,11 @@ unfolding valueFrom
 value-append [] y a = refl
 value-append (z ∷ x) y a = value-append x y (2 * a + one z)
 
-value-below : (b : List Bool) (n : ℕ) → length b ≡ n → value b < 2 ^ n
+pub value-below : (b : List Bool) (n : ℕ) → length b ≡ n → value b < 2 ^ n
 unfolding value
 value-below b n e = let q : 0 + n ≡ n = omega arith in rw q at (value-lt b 0 0 n (omega arith) (omega arith))
 
-value-two : (x y : List Bool) (n : ℕ) → length y ≡ n → value (x ++ y) ≡ value x * 2 ^ n + value y
+pub value-two : (x y : List Bool) (n : ℕ) → length y ≡ n → value (x ++ y) ≡ value x * 2 ^ n + value y
 unfolding value
 value-two x y n e = value-append x y 0 ∙ value-shift y (valueFrom 0 x) ∙ ap (λ (k : ℕ). valueFrom 0 x * 2 ^ k + valueFrom 0 y) e
 

@@ -1,24 +1,26 @@
 -- Bytes read to a header exactly when its bitrate and its sample rate are its version's.
 -- One way, the header's own bytes are written down and read back field by field, whatever follows them; the other, each of the fourteen
 -- and three places that a field can name holds a member.
-use mathlib.Core.Path.{_≡_, refl, ap, subst, _∙_}
+use mathlib.Core.Path.{_≡_, refl, sym, ap, subst, _∙_}
 use mathlib.Core.Bool.{Bool, true, false, not, _&&_}
 use mathlib.Core.Logic.{_↔_}
 use mathlib.Core.List.{List, [], _∷_, _++_}
 use Prim.Native.Nat.{ℕ, zero, suc, _+_, _-_, _*_, _/_, _%_, _<_, _≤_}
 use native.Mathlib.Omega.{arith}
-use borrow.Author.Tests.{eqb-false, ne-eqb, le-ltb, lt-leb}
-use lib.ListN.{length, getD, length-append}
+use borrow.Author.Tests.{eqb-false, ne-eqb, eq-eqb, le-ltb, lt-leb}
+use lib.ListN.{length, getD, replicate, length-append}
 use lib.Dec.{leb, eqb}
 use Rattle.standard.specs.Told.{told, pick}
 use Rattle.standard.specs.ToldLaws.{passed, no-refusal, told-is, both-of, both}
-use Rattle.standard.specs.Bits.{one}
-use Rattle.standard.specs.BitsLaws.{one-le, one-is}
+use Rattle.standard.specs.Bits.{one, bitAt, bits, between, value, fieldAt}
+use Rattle.standard.specs.BitsLaws.{one-le, one-is, bits-after}
+use Rattle.standard.specs.Crc.{checkWord, covered, crcFits}
+use Rattle.standard.specs.CrcLaws.{fed-long}
 use Rattle.standard.specs.Rows.{member, place}
 use Rattle.standard.specs.RowsLaws.{member-at, place-at}
 use Rattle.standard.specs.Header.{sameBitrate, sameRate, bitrates, rates, versionOf, emphasisOf, channelsOf, fields, lastBytes, secondByte, headerOf, isHeader, headerSize}
 use Rattle.standard.specs.HeaderLaws.{same-bitrate, same-rate, bitrate-self, rate-self, bitrate-count, rate-count}
-use Rattle.standard.specs.Written.{Bytes, bytes-append}
+use Rattle.standard.specs.Written.{Bytes, bytes-append, pack, length-pack, bytes-pack, bits-pack}
 use Rattle.standard.specs.declared.MpegVersion.{MpegVersion}
 use Rattle.standard.specs.declared.MpegVersion.the-variants.{Mpeg1, Mpeg2, Mpeg25}
 use Rattle.standard.specs.declared.Channels.{Channels}
@@ -131,33 +133,32 @@ fourth h =
     64 * mode (h .channels) + 32 * midSide (h .channels) + 16 * intensity (h .channels) + 8 * one (h .copyright) + 4 * one (h .original)
     + emphasisBits (h .emphasis)
 
-crcBytes : Bool → List ℕ
-crcBytes true = 0 ∷ 0 ∷ []
-crcBytes false = []
+-- a CRC of the sixteen bits w, where there is one
+crcBytes : Bool → List Bool → List ℕ
+crcBytes true w = pack 2 w
+crcBytes false w = []
 
-pub headerBytes : FrameHeader → List ℕ
-headerBytes h = 255 ∷ second h ∷ third h ∷ fourth h ∷ crcBytes (h .crc)
+pub headerBytes : FrameHeader → List Bool → List ℕ
+headerBytes h w = 255 ∷ second h ∷ third h ∷ fourth h ∷ crcBytes (h .crc) w
 
-crc-length : (b : Bool) → length (crcBytes b) ≡ 2 * one b
+crc-length : (b : Bool) (w : List Bool) → length (crcBytes b w) ≡ 2 * one b
 unfolding crcBytes
-crc-length true = refl
-crc-length false = refl
+crc-length true w = length-pack 2 w
+crc-length false w = refl
 
-pub length-header : (h : FrameHeader) → length (headerBytes h) ≡ headerSize h
+pub length-header : (h : FrameHeader) (w : List Bool) → length (headerBytes h w) ≡ headerSize h
 unfolding headerBytes headerSize
-length-header h = omega (arith, crc-length (h .crc))
+length-header h w = omega (arith, crc-length (h .crc) w)
 
-crc-bytes : (b : Bool) → Bytes (crcBytes b)
+crc-bytes : (b : Bool) (w : List Bool) → Bytes (crcBytes b w)
 unfolding crcBytes
-crc-bytes true zero = omega arith
-crc-bytes true (suc zero) = omega arith
-crc-bytes true (suc (suc i)) = omega arith
-crc-bytes false i = omega arith
+crc-bytes true w = bytes-pack 2 w
+crc-bytes false w = λ i. omega arith
 
 -- so many bytes are there
-header-there : (h : FrameHeader) (rest : List ℕ) (k : ℕ) → k < 4 → leb (length (headerBytes h ++ rest)) k ≡ false
+header-there : (h : FrameHeader) (w : List Bool) (rest : List ℕ) (k : ℕ) → k < 4 → leb (length (headerBytes h w ++ rest)) k ≡ false
 unfolding headerBytes
-header-there h rest k l = lt-leb (length (headerBytes h ++ rest)) k (simp length-append (omega arith))
+header-there h w rest k l = lt-leb (length (headerBytes h w ++ rest)) k (simp length-append (omega arith))
 
 -- and the CRC where it is asked for
 crc-there : (b : Bool) (n : ℕ) → 4 + 2 * one b ≤ n → b && leb n 5 ≡ false
@@ -217,34 +218,66 @@ module _ (h : FrameHeader) (known : isHeader h ≡ true) where
       one-less : suc (bitrateIn h) - 1 ≡ bitrateIn h
       one-less = omega arith
 
-  -- whatever follows the header
-  pub header-back : (rest : List ℕ) → headerOf (headerBytes h ++ rest) ≡ told h
+  -- whatever its CRC is, and whatever follows the header
+  pub header-back : (w : List Bool) (rest : List ℕ) → headerOf (headerBytes h w ++ rest) ≡ told h
   unfolding headerOf secondByte lastBytes headerBytes
-  header-back rest =
-      passed _ (header-there h rest 0 (omega arith))
+  header-back w rest =
+      passed _ (header-there h w rest 0 (omega arith))
       ∙ (passed _ refl
-      ∙ (passed _ (header-there h rest 1 (omega arith))
+      ∙ (passed _ (header-there h w rest 1 (omega arith))
       ∙ (passed _ (le-ltb (second h) 224 (second-is .3))
       ∙ (passed _ (ap (λ (n : ℕ). eqb n 1) (second-is .0) ∙ version-ok (h .version))
       ∙ (passed _ (ap (λ (n : ℕ). eqb n 0) (second-is .1))
       ∙ (passed _ (ap (λ (n : ℕ). not (eqb n 1)) (second-is .1))
-      ∙ (passed _ (header-there h rest 3 (omega arith))
+      ∙ (passed _ (header-there h w rest 3 (omega arith))
       ∙ (passed _ (ne-eqb (third h / 16) 0 (λ e. omega (arith, third-is)))
       ∙ (passed _ (ne-eqb (third h / 16) 15 (λ e. omega (arith, bitrate-place, third-is)))
       ∙ (passed _ (ne-eqb (third h / 4 % 4) 3 (λ e. omega (arith, rate-place, third-is)))
       ∙ (passed _ (ap (λ (n : ℕ). eqb n 2) (fourth-is .5) ∙ emphasis-ok (h .emphasis))
       ∙ (passed _
-      (ap (λ (b : Bool). b && leb (length (headerBytes h ++ rest)) 5) (ap (λ (n : ℕ). eqb n 0) (second-is .2) ∙ one-not (h .crc))
-      ∙ crc-there (h .crc) (length (headerBytes h ++ rest)) (simp length-append (omega (arith, crc-length (h .crc)))))
+      (ap (λ (b : Bool). b && leb (length (headerBytes h w ++ rest)) 5) (ap (λ (n : ℕ). eqb n 0) (second-is .2) ∙ one-not (h .crc))
+      ∙ crc-there (h .crc) (length (headerBytes h w ++ rest)) (simp length-append (omega (arith, crc-length (h .crc) w))))
       ∙ ap told fields-back))))))))))))
 
-  pub bytes-header : Bytes (headerBytes h)
+  pub bytes-header : (w : List Bool) → Bytes (headerBytes h w)
   unfolding headerBytes
-  bytes-header zero = omega arith
-  bytes-header (suc zero) = second-is .4
-  bytes-header (suc (suc zero)) = third-is .3
-  bytes-header (suc (suc (suc zero))) = fourth-is .6
-  bytes-header (suc (suc (suc (suc i)))) = crc-bytes (h .crc) i
+  bytes-header w zero = omega arith
+  bytes-header w (suc zero) = second-is .4
+  bytes-header w (suc (suc zero)) = third-is .3
+  bytes-header w (suc (suc (suc zero))) = fourth-is .6
+  bytes-header w (suc (suc (suc (suc i)))) = crc-bytes (h .crc) w i
+
+-- ---- the CRC that fits, where the bits b of the side information follow
+pub fitting : FrameHeader → List Bool → List Bool
+fitting h b = checkWord (bits (third h ∷ fourth h ∷ []) 0 16 ++ b)
+
+module _ (h : FrameHeader) (n : ℕ) (b : List Bool) (l : length b ≡ 8 * n) where
+  abbrev front : List ℕ
+  front = 255 ∷ second h ∷ third h ∷ fourth h ∷ pack 2 (fitting h b)
+
+  covered-is : covered (front ++ pack n b) (6 + n) ≡ bits (third h ∷ fourth h ∷ []) 0 16 ++ b
+  unfolding covered between bits bitAt pack
+  covered-is =
+      let k : 8 * (6 + n) - 48 ≡ 8 * n = omega arith in
+      ap (λ (x : List Bool). bits (third h ∷ fourth h ∷ []) 0 16 ++ x)
+      (ap (bits (front ++ pack n b) 48) k ∙ bits-after front (pack n b) (8 * n) 0 ∙ bits-pack n b l)
+
+  word-is : fieldAt (front ++ pack n b) 32 16 ≡ value (fitting h b)
+  unfolding fieldAt bits bitAt pack fitting checkWord
+  word-is = ap value (bits-pack 2 (fitting h b) (fed-long (replicate 16 true) _ refl))
+
+  front-fits : crcFits (front ++ pack n b) (6 + n) ≡ true
+  unfolding crcFits fitting
+  front-fits = eq-eqb _ _ (ap (λ (x : List Bool). value (checkWord x)) covered-is ∙ sym word-is)
+
+  -- so there is none that does not
+  pub fits-after : h .crc && not (crcFits (headerBytes h (fitting h b) ++ pack n b) (headerSize h + n)) ≡ false
+  unfolding headerBytes headerSize crcBytes
+  fits-after = go (h .crc)
+    where
+      go : (c : Bool) → c && not (crcFits ((255 ∷ second h ∷ third h ∷ fourth h ∷ crcBytes c (fitting h b)) ++ pack n b) (4 + 2 * one c + n)) ≡ false
+      go false = refl
+      go true = ap not front-fits
 
 -- ---- what is read has its version's bitrate and sample rate
 fields-known : (b1 b2 b3 : ℕ) → b2 < 256 → (b2 / 16 ≡ 0 → ⊥) → (b2 / 16 ≡ 15 → ⊥) → (b2 / 4 % 4 ≡ 3 → ⊥) → isHeader (fields b1 b2 b3) ≡ true
@@ -285,6 +318,6 @@ header-known s h b e =
 -- THE STATEMENT: a header is accepted exactly when some bytes read to it
 pub header-read : (h : FrameHeader) → (isHeader h ≡ true) ↔ ((s : List ℕ) × Bytes s × (headerOf s ≡ told h))
 header-read h = (
-  λ e. (headerBytes h ++ [], bytes-append (headerBytes h) [] (bytes-header h e) (λ i. omega arith), header-back h e []),
+  λ e. (headerBytes h [] ++ [], bytes-append (headerBytes h []) [] (bytes-header h e []) (λ i. omega arith), header-back h e [] []),
   λ w. header-known (w .0) h (w .1) (w .2),
 )

@@ -6,6 +6,7 @@ pub mod Bits
 pub mod Rows
 pub mod Same
 pub mod Codes
+pub mod Crc
 pub mod Bands
 pub mod Lengths
 pub mod Header
@@ -22,6 +23,7 @@ pub mod Worked
 pub mod ToldLaws
 pub mod BitsLaws
 pub mod CodesLaws
+pub mod CrcLaws
 pub mod BandsLaws
 pub mod LengthsLaws
 pub mod RefusalsLaws
@@ -47,4 +49,5 @@ pub mod ReservoirLaws
 pub mod ReorderLaws
 pub mod FrameLaws
 pub mod StepLaws
+pub mod FlipLaws
 pub mod NeedsLaws

@@ -15,12 +15,13 @@ use Rattle.standard.specs.ToldLaws.{picked, passed, never, no-refusal, t
 use Rattle.standard.specs.Refusals.{numberOf, offsetOf}
 use Rattle.standard.specs.RefusalsLaws.{why-is, unlike}
 use Rattle.standard.specs.Bits.{one, bits}
+use Rattle.standard.specs.Crc.{crcFits}
 use Rattle.standard.specs.Written.{Bytes}
 use Rattle.standard.specs.Header.{fields, lastBytes, secondByte, headerOf, isHeader, isMpeg1, isTwo, isSlow, headerSize, sideBytes, sideSize, mainSize, dataSize, frameLength}
 use Rattle.standard.specs.Header.{syncLeast, ID, layer, protectionBit}
 use Rattle.standard.specs.HeaderLaws.{header-size, side-size, main-and-side}
 use Rattle.standard.specs.HeaderBytes.{header-known}
-use Rattle.standard.specs.SideInfo.{absentFrom, sideIn, sideFrom, sideOf}
+use Rattle.standard.specs.SideInfo.{neededFrom, absentFrom, sideIn, sideFrom, sideOf}
 use Rattle.standard.specs.Frame.{Step, noStep, shortStep, fullStep, withTurn, frameOf}
 use Rattle.standard.specs.FrameLaws.{frame-no-header, frame-no-side, frame-absent, frame-turn}
 use Rattle.standard.specs.StepLaws.{only, but, side-in-but}
@@ -28,7 +29,7 @@ use Rattle.standard.specs.Needs.{wrongSecond, wrongLast, headerNeeds, si
 use Rattle.standard.specs.declared.FrameHeader.{FrameHeader}
 use Rattle.standard.specs.declared.SideInfo.{SideInfo}
 use Rattle.standard.specs.declared.Refusal.{Refusal}
-use Rattle.standard.specs.declared.Refusal.the-variants.{AbsentBytes, MadeUpRecord}
+use Rattle.standard.specs.declared.Refusal.the-variants.{AbsentBytes, MadeUpRecord, WrongCrc}
 use Rattle.standard.specs.declared.Verdict.{Verdict}
 use Rattle.standard.specs.declared.Verdict.the-variants.{Accepted, Refused}
 use Rattle.standard.specs.Reservoir.{Turn, short, reached}
@@ -182,11 +183,19 @@ pub header-absent : (s : List ℕ) (n : ℕ) → (verdictOf (headerOf s) ≡ Ref
 header-absent s n = exactly (some-needed s) (rw (absent-zero (length s)) (header-fit s))
 
 -- ---- side information under a header that bytes read to
+needed-before : (h : FrameHeader) → neededFrom (h .crc) (headerSize h) ≤ headerSize h
+unfolding headerSize
+needed-before h = go (h .crc)
+  where
+    go : (c : Bool) → neededFrom c (4 + 2 * one c) ≤ 4 + 2 * one c
+    go true = omega arith
+    go false = omega arith
+
 module _ (h : FrameHeader) (known : isHeader h ≡ true) (s : List ℕ) where
   abbrev end : ℕ
   end = headerSize h + sideSize h
 
-  side-fit : Fit end (absentFrom (headerSize h) (length s)) s (verdictOf (sideOf h s))
+  side-fit : Fit end (absentFrom (neededFrom (h .crc) (headerSize h)) (length s)) s (verdictOf (sideOf h s))
   unfolding sideOf sideFrom sideSize verdictOf
   side-fit =
       let mpeg1 = isMpeg1 (h .version) in
@@ -194,17 +203,19 @@ module _ (h : FrameHeader) (known : isHeader h ≡ true) (s : List ℕ) where
       let slow = isSlow (h .rate) in
       let own = bits s (8 * headerSize h) (8 * sideBytes mpeg1 two) in
       let to = headerSize h + sideBytes mpeg1 two in
-      let none : Told SideInfo = refused (AbsentBytes (absentFrom (headerSize h) (length s))) in
+      let none : Told SideInfo = refused (AbsentBytes (absentFrom (neededFrom (h .crc) (headerSize h)) (length s))) in
+      let wrong = h .crc && not (crcFits s to) in
+      let checked : Told SideInfo = pick wrong (refused WrongCrc) (sideIn mpeg1 two slow own) in
       let e = ap verdictOf (picked (refused MadeUpRecord) known) in
       record {
-        short = λ l. e ∙ ap verdictOf (picked (sideIn mpeg1 two slow own) (lt-ltb (length s) to l));
-        long = λ l n q. only-not (sideIn mpeg1 two slow own) (side-in-but 2 refl mpeg1 two slow own)
+        short = λ l. e ∙ ap verdictOf (picked checked (lt-ltb (length s) to l));
+        long = λ l n q. only-not checked (side-in-but 2 refl refl wrong mpeg1 two slow own)
             (sym (e ∙ ap verdictOf (passed none (le-ltb (length s) to l))) ∙ q);
       }
 
-  -- THE STATEMENT, of side information: the header's own bytes are not needed
-  pub side-absent : (n : ℕ) → (verdictOf (sideOf h s) ≡ Refused (AbsentBytes n)) ↔ FirstAbsent (headerSize h) (headerSize h + sideSize h) s n
-  side-absent n = exactly (omega (arith, side-size h)) side-fit
+  -- THE STATEMENT, of side information: of the header's own bytes those are needed that a CRC covers, and this
+  pub side-absent : (n : ℕ) → (verdictOf (sideOf h s) ≡ Refused (AbsentBytes n)) ↔ FirstAbsent (neededFrom (h .crc) (headerSize h)) (headerSize h + sideSize h) s n
+  side-absent n = exactly (omega (arith, needed-before h, side-size h)) side-fit
 
 -- ---- a frame
 -- a header that was read is there, with its CRC
@@ -249,7 +260,8 @@ module _ (s old : List ℕ) (bytes : Bytes s) where
   unfolding sideNeeds noStep verdictOf absentFrom
   by-side h e (refused r) f =
       let v = ap (λ (p : Step). p .verdict) (frame-no-side s old e f) ∙ sym (ap verdictOf f) in
-      let here : absentFrom (headerSize h) (length s) ≡ length s = passed _ (le-ltb (length s) (headerSize h) (header-there s h e)) in
+      let from = neededFrom (h .crc) (headerSize h) in
+      let here : absentFrom from (length s) ≡ length s = passed _ (le-ltb (length s) from (omega (arith, needed-before h, header-there s h e))) in
       subst (Fit (headerSize h + sideSize h) (length s) s) (sym v)
       (subst (λ (m : ℕ). Fit (headerSize h + sideSize h) m s (verdictOf (sideOf h s))) here (side-fit h (header-known s h bytes e) s))
   by-side h e (told i) f = record {

@@ -4,7 +4,7 @@ use Rattle.standard.specs.Told.{Told, refused, told, toldOr, verdictOf}
 use mathlib.Core.Path.{_≡_}
 use Rattle.standard.specs.declared.FrameHeader.{FrameHeader}
 use Rattle.standard.specs.declared.Refusal.{Refusal}
-use Rattle.standard.specs.declared.Refusal.the-variants.{UnfitMemory, MadeUpRecord, AbsentBytes, NoSync, ReservedVersion, ReservedLayer, OtherLayer, FreeBitrate, ForbiddenBitrate, ReservedRate, ReservedEmphasis, TooManyPairs, ForbiddenBlock, MixedBlock, ShortReservoir, MissingBits, FactorOverrun, LostShare, PairOverrun, NoCodeword}
+use Rattle.standard.specs.declared.Refusal.the-variants.{UnfitMemory, MadeUpRecord, AbsentBytes, NoSync, ReservedVersion, ReservedLayer, OtherLayer, FreeBitrate, ForbiddenBitrate, ReservedRate, ReservedEmphasis, WrongCrc, TooManyPairs, ForbiddenBlock, MixedBlock, ShortReservoir, MissingBits, FactorOverrun, LostShare, PairOverrun, NoCodeword}
 use Rattle.standard.specs.declared.Verdict.{Verdict}
 use Rattle.standard.specs.declared.HeaderAnswer.{HeaderAnswer}
 use Rattle.standard.specs.declared.HeaderAnswer.the-variants.{Header, NoHeader}
@@ -22,6 +22,7 @@ numberOf FreeBitrate = 7
 numberOf ForbiddenBitrate = 8
 numberOf ReservedRate = 15
 numberOf ReservedEmphasis = 9
+numberOf WrongCrc = 16
 numberOf TooManyPairs = 10
 numberOf ForbiddenBlock = 11
 numberOf MixedBlock = 12
@@ -45,6 +46,7 @@ offsetOf FreeBitrate = 0
 offsetOf ForbiddenBitrate = 0
 offsetOf ReservedRate = 0
 offsetOf ReservedEmphasis = 0
+offsetOf WrongCrc = 0
 offsetOf TooManyPairs = 0
 offsetOf ForbiddenBlock = 0
 offsetOf MixedBlock = 0

@@ -8,7 +8,7 @@ use Rattle.standard.specs.Told.{Told, refused, told, toldOr, verdictOf}
 use Rattle.standard.specs.ToldLaws.{clash}
 use Rattle.standard.specs.Refusals.{numberOf, offsetOf, toldHeader, Answers}
 use Rattle.standard.specs.declared.Refusal.{Refusal}
-use Rattle.standard.specs.declared.Refusal.the-variants.{UnfitMemory, MadeUpRecord, AbsentBytes, NoSync, ReservedVersion, ReservedLayer, OtherLayer, FreeBitrate, ForbiddenBitrate, ReservedRate, ReservedEmphasis, TooManyPairs, ForbiddenBlock, MixedBlock, ShortReservoir, MissingBits, FactorOverrun, LostShare, PairOverrun, NoCodeword}
+use Rattle.standard.specs.declared.Refusal.the-variants.{UnfitMemory, MadeUpRecord, AbsentBytes, NoSync, ReservedVersion, ReservedLayer, OtherLayer, FreeBitrate, ForbiddenBitrate, ReservedRate, ReservedEmphasis, WrongCrc, TooManyPairs, ForbiddenBlock, MixedBlock, ShortReservoir, MissingBits, FactorOverrun, LostShare, PairOverrun, NoCodeword}
 use Rattle.standard.specs.declared.Verdict.{Verdict}
 use Rattle.standard.specs.declared.Verdict.the-variants.{Accepted, Refused}
 use Rattle.standard.specs.declared.HeaderAnswer.{HeaderAnswer}
@@ -67,7 +67,7 @@ answered-refused {A} {t = t} q e = refused-for t (sym (q .verdict) ∙ e)
 refusals : ℕ → List Refusal
 refusals n =
     NoSync ∷ UnfitMemory ∷ AbsentBytes n ∷ NoSync ∷ ReservedVersion ∷ ReservedLayer ∷ OtherLayer ∷ FreeBitrate ∷ ForbiddenBitrate ∷ ReservedEmphasis ∷
-    TooManyPairs ∷ ForbiddenBlock ∷ MixedBlock ∷ ShortReservoir ∷ MadeUpRecord ∷ ReservedRate ∷ NoSync ∷ NoSync ∷ NoSync ∷ NoSync ∷
+    TooManyPairs ∷ ForbiddenBlock ∷ MixedBlock ∷ ShortReservoir ∷ MadeUpRecord ∷ ReservedRate ∷ WrongCrc ∷ NoSync ∷ NoSync ∷ NoSync ∷
     MissingBits ∷ FactorOverrun ∷ LostShare ∷ NoSync ∷ PairOverrun ∷ NoCodeword ∷ []
 
 back : (r : Refusal) → getD (refusals (offsetOf r)) (numberOf r) NoSync ≡ r
@@ -83,6 +83,7 @@ back FreeBitrate = refl
 back ForbiddenBitrate = refl
 back ReservedRate = refl
 back ReservedEmphasis = refl
+back WrongCrc = refl
 back TooManyPairs = refl
 back ForbiddenBlock = refl
 back MixedBlock = refl

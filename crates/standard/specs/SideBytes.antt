@@ -19,9 +19,10 @@ use Rattle.standard.specs.Told.{Told, refused, told, pick}
 use Rattle.standard.specs.ToldLaws.{picked, passed, never, no-refusal, told-is, both-of, both}
 use Rattle.standard.specs.Bits.{bits, field}
 use Rattle.standard.specs.BitsLaws.{length-bits, field-lt, bits-after}
+use Rattle.standard.specs.Crc.{crcFits}
 use Rattle.standard.specs.Written.{Part, _in-bits_, write, stands, length-write, Bytes, bytes-append, pack, length-pack, bytes-pack, bits-pack}
 use Rattle.standard.specs.Header.{isMpeg1, isTwo, isSlow, headerOf, isHeader, headerSize, sideBytes, granules, channelCount}
-use Rattle.standard.specs.HeaderBytes.{headerBytes, length-header, header-back, bytes-header}
+use Rattle.standard.specs.HeaderBytes.{headerBytes, length-header, header-back, bytes-header, fitting, fits-after}
 use Rattle.standard.specs.Record.{absent, recordOf, recordWidth, isRecord, isUnmixed, isHead, isPreflag, isLongBody, isLong, gainBelow, below, trio}
 use Rattle.standard.specs.RecordBits.{no-gain, no-gain-is, no-table-is, trio-is, trio-all, three, long-is, bitsOfRecord, length-record, record-back, record-known}
 use Rattle.standard.specs.SideInfo.{beginWidth, privateWidth, shareCount, sharesAt, slotCount, thenRecords, recordsOf, thenSide, sideIn, sideFrom, sideOf, noHead, noBody, noTail, isAbsent, fitSlots, noShares, areShares, areSlots, isSideBy, isRecordUnder, isSide}
@@ -224,13 +225,15 @@ module _ (mpeg1 two : Bool) (i : SideInfo) where
             ap (λ (n : ℕ). take (slotCount mpeg1 two) (i .slots) ++ replicate (n - slotCount mpeg1 two) absent) (sym (side-is .3))
             ∙ slots-whole mpeg1 slow (slotCount mpeg1 two) (i .slots) (side-is .4)
 
-    -- after a header of any length
-    side-after : (front : List ℕ) → sideFrom mpeg1 two slow (length front) (front ++ pack (sideBytes mpeg1 two) sideBits) ≡ told i
+    -- after a header of any length, whose CRC fits if it has one
+    side-after : (crc : Bool) (front : List ℕ)
+        → crc && not (crcFits (front ++ pack (sideBytes mpeg1 two) sideBits) (length front + sideBytes mpeg1 two)) ≡ false
+        → sideFrom crc mpeg1 two slow (length front) (front ++ pack (sideBytes mpeg1 two) sideBits) ≡ told i
     unfolding sideFrom
-    side-after front =
+    side-after crc front fits =
         let n = sideBytes mpeg1 two in
         let s = pack n sideBits in
-        passed _ (le-ltb (length (front ++ s)) (length front + n) (simp (length-append, length-pack) (omega arith)))
+        passed _ (le-ltb (length (front ++ s)) (length front + n) (simp (length-append, length-pack) (omega arith))) ∙ passed _ fits
         ∙ ap (sideIn mpeg1 two slow)
         (ap (λ (at : ℕ). bits (front ++ s) at (8 * n)) (sym (add-zero (8 * length front))) ∙ bits-after front s (8 * n) 0 ∙ bits-pack n sideBits side-length)
         ∙ side-back
@@ -289,22 +292,27 @@ in-known mpeg1 two slow b i l e =
     slots-four : (rs : List SlotRecord) → length rs ≡ slotCount mpeg1 two → length (rs ++ replicate (4 - slotCount mpeg1 two) absent) ≡ 4
     slots-four rs h = length-append rs (replicate (4 - slotCount mpeg1 two) absent) ∙ simp (h, length-replicate) (omega (arith, layout mpeg1 two .slots))
 
-from-known : (mpeg1 two slow : Bool) (from : ℕ) (s : List ℕ) (i : SideInfo) → sideFrom mpeg1 two slow from s ≡ told i → isSideBy mpeg1 two slow i ≡ true
+from-known : (crc mpeg1 two slow : Bool) (from : ℕ) (s : List ℕ) (i : SideInfo) → sideFrom crc mpeg1 two slow from s ≡ told i
+    → isSideBy mpeg1 two slow i ≡ true
 unfolding sideFrom
-from-known mpeg1 two slow from s i e =
-    in-known mpeg1 two slow (bits s (8 * from) (8 * sideBytes mpeg1 two)) i (length-bits s (8 * from) (8 * sideBytes mpeg1 two)) (no-refusal _ _ _ i e .1)
+from-known crc mpeg1 two slow from s i e =
+    in-known mpeg1 two slow (bits s (8 * from) (8 * sideBytes mpeg1 two)) i (length-bits s (8 * from) (8 * sideBytes mpeg1 two))
+    (no-refusal _ _ _ i (no-refusal _ _ _ i e .1) .1)
 
 -- ---- the beginning of a frame: the bytes of a header, and then of side information
+abbrev bitsUnder : FrameHeader → SideInfo → List Bool
+bitsUnder h i = sideBits (isMpeg1 (h .version)) (isTwo (h .channels)) i
+
 beginning : FrameHeader → SideInfo → List ℕ
-beginning h i = headerBytes h ++ pack (sideBytes (isMpeg1 (h .version)) (isTwo (h .channels))) (sideBits (isMpeg1 (h .version)) (isTwo (h .channels)) i)
+beginning h i = headerBytes h (fitting h (bitsUnder h i)) ++ pack (sideBytes (isMpeg1 (h .version)) (isTwo (h .channels))) (bitsUnder h i)
 
 beginning-bytes : (h : FrameHeader) (i : SideInfo) → isHeader h ≡ true → Bytes (beginning h i)
 unfolding beginning
-beginning-bytes h i known = bytes-append (headerBytes h) _ (bytes-header h known) (bytes-pack _ _)
+beginning-bytes h i known = bytes-append (headerBytes h (fitting h (bitsUnder h i))) _ (bytes-header h known _) (bytes-pack _ _)
 
 beginning-header : (h : FrameHeader) (i : SideInfo) → isHeader h ≡ true → headerOf (beginning h i) ≡ told h
 unfolding beginning
-beginning-header h i known = header-back h known _
+beginning-header h i known = header-back h known _ _
 
 beginning-side : (h : FrameHeader) (i : SideInfo) → isHeader h ≡ true → isSide h i ≡ true → sideOf h (beginning h i) ≡ told i
 unfolding beginning sideOf isSide
@@ -312,12 +320,16 @@ beginning-side h i known e =
     let m = isMpeg1 (h .version) in
     let t = isTwo (h .channels) in
     let w = isSlow (h .rate) in
-    picked _ known ∙ ap (λ (from : ℕ). sideFrom m t w from (headerBytes h ++ pack (sideBytes m t) (sideBits m t i))) (sym (length-header h))
-    ∙ side-after m t i w e (headerBytes h)
+    let front = headerBytes h (fitting h (sideBits m t i)) in
+    let long : headerSize h ≡ length front = sym (length-header h (fitting h (sideBits m t i))) in
+    let s = front ++ pack (sideBytes m t) (sideBits m t i) in
+    picked _ known ∙ ap (λ (from : ℕ). sideFrom (h .crc) m t w from s) long
+    ∙ side-after m t i w e (h .crc) front
+    (ap (λ (from : ℕ). h .crc && not (crcFits s (from + sideBytes m t))) (sym long) ∙ fits-after h (sideBytes m t) (sideBits m t i) (side-length m t i w e))
 
 pub side-known : (h : FrameHeader) (i : SideInfo) (s : List ℕ) → isHeader h ≡ true → sideOf h s ≡ told i → isSide h i ≡ true
 unfolding sideOf isSide
-side-known h i s known e = from-known (isMpeg1 (h .version)) (isTwo (h .channels)) (isSlow (h .rate)) (headerSize h) s i (sym (picked _ known) ∙ e)
+side-known h i s known e = from-known (h .crc) (isMpeg1 (h .version)) (isTwo (h .channels)) (isSlow (h .rate)) (headerSize h) s i (sym (picked _ known) ∙ e)
 
 -- THE STATEMENT: under a header that bytes read to, side information is accepted exactly when some bytes read to that header and to it
 pub side-read : (h : FrameHeader) (i : SideInfo) → isHeader h ≡ true

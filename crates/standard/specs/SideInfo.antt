@@ -7,12 +7,13 @@ use lib.Dec.{ltb, eqb}
 use lib.ListN.{length, take, drop, replicate}
 use Rattle.standard.specs.Told.{Told, refused, told, pick}
 use Rattle.standard.specs.Bits.{bits, field}
+use Rattle.standard.specs.Crc.{crcFits}
 use Rattle.standard.specs.Header.{isMpeg1, isTwo, isSlow, isHeader, headerSize, sideBytes, granulesIn, channelsIn}
 use Rattle.standard.specs.Record.{absent, recordOf, recordWidth, isRecord, isLong, gainBelow, below, trio}
 use Rattle.standard.specs.declared.FrameHeader.{FrameHeader}
 use Rattle.standard.specs.declared.SlotRecord.{SlotRecord}
 use Rattle.standard.specs.declared.SideInfo.{SideInfo}
-use Rattle.standard.specs.declared.Refusal.the-variants.{MadeUpRecord, AbsentBytes}
+use Rattle.standard.specs.declared.Refusal.the-variants.{MadeUpRecord, AbsentBytes, WrongCrc}
 
 -- ---- the layout
 -- main_data_begin
@@ -70,15 +71,21 @@ sideIn mpeg1 two slow b =
 unfoldable pub absentFrom : ℕ → ℕ → ℕ
 absentFrom from n = pick (ltb n from) from n
 
--- from the frame's bytes, of which the header takes the first `from`
-unfoldable pub sideFrom : Bool → Bool → Bool → ℕ → List ℕ → Told SideInfo
-sideFrom mpeg1 two slow from s =
-    pick (ltb (length s) (from + sideBytes mpeg1 two)) (refused (AbsentBytes (absentFrom from (length s))))
-    (sideIn mpeg1 two slow (bits s (8 * from) (8 * sideBytes mpeg1 two)))
+-- the first byte that is needed: of the header's none, or the two that its CRC covers and itself
+abbrev pub neededFrom : Bool → ℕ → ℕ
+neededFrom true from = 2
+neededFrom false from = from
+
+-- from the frame's bytes, of which the header takes the first `from`; `crc` says whether it has a CRC
+unfoldable pub sideFrom : Bool → Bool → Bool → Bool → ℕ → List ℕ → Told SideInfo
+sideFrom crc mpeg1 two slow from s =
+    pick (ltb (length s) (from + sideBytes mpeg1 two)) (refused (AbsentBytes (absentFrom (neededFrom crc from) (length s))))
+    (pick (crc && not (crcFits s (from + sideBytes mpeg1 two))) (refused WrongCrc)
+    (sideIn mpeg1 two slow (bits s (8 * from) (8 * sideBytes mpeg1 two))))
 
 unfoldable pub sideOf : FrameHeader → List ℕ → Told SideInfo
 sideOf h s =
-    pick (isHeader h) (sideFrom (isMpeg1 (h .version)) (isTwo (h .channels)) (isSlow (h .rate)) (headerSize h) s) (refused MadeUpRecord)
+    pick (isHeader h) (sideFrom (h .crc) (isMpeg1 (h .version)) (isTwo (h .channels)) (isSlow (h .rate)) (headerSize h) s) (refused MadeUpRecord)
 
 -- what a refusal's answer has in the place of side information
 unfoldable pub noSide : SideInfo

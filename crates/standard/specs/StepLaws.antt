@@ -28,7 +28,7 @@ use Rattle.standard.specs.FrameLaws.{call-few-numbers, frame-no-header, 
 use Rattle.standard.specs.declared.FrameHeader.{FrameHeader}
 use Rattle.standard.specs.declared.SlotRecord.{SlotRecord}
 use Rattle.standard.specs.declared.SideInfo.{SideInfo}
-use Rattle.standard.specs.declared.Refusal.the-variants.{UnfitMemory, AbsentBytes, ShortReservoir}
+use Rattle.standard.specs.declared.Refusal.the-variants.{UnfitMemory, AbsentBytes, WrongCrc, ShortReservoir}
 use Rattle.standard.specs.declared.Refusal.{Refusal}
 use Rattle.standard.specs.Refusals.{numberOf}
 
@@ -97,8 +97,11 @@ but-is k e n f =
     go true h low high g = omega (arith, ltb-true k 10 h)
     go false h low high g = omega (arith, ltb-true 12 k (sym (ap (λ (b : Bool). b || ltb 12 k) h) ∙ e))
 
-pub side-in-but : (k : ℕ) → ltb k 10 || ltb 12 k ≡ true → (mpeg1 two slow : Bool) (b : List Bool) → only (but k) (sideIn mpeg1 two slow b) ≡ true
-side-in-but k e mpeg1 two slow b = only-more ofRecord (but k) (but-is k e) (sideIn mpeg1 two slow b) (side-in-only mpeg1 two slow b)
+-- and before them by 16
+pub side-in-but : (k : ℕ) → ltb k 10 || ltb 12 k ≡ true → but k (numberOf WrongCrc) ≡ true → (wrong mpeg1 two slow : Bool) (b : List Bool)
+    → only (but k) (pick wrong (refused WrongCrc) (sideIn mpeg1 two slow b)) ≡ true
+side-in-but k e f wrong mpeg1 two slow b =
+    pick-only (but k) wrong WrongCrc _ f (only-more ofRecord (but k) (but-is k e) (sideIn mpeg1 two slow b) (side-in-only mpeg1 two slow b))
 
 header-other : (s : List ℕ) → only (but 13) (headerOf s) ≡ true
 unfolding headerOf secondByte lastBytes only
@@ -114,7 +117,7 @@ side-other h s =
     let two = isTwo (h .channels) in
     let slow = isSlow (h .rate) in
     either-way (λ (t : Told SideInfo). only (but 13) t ≡ true) _ _ _
-    (λ e. pick-only _ _ _ _ refl (side-in-but 13 refl mpeg1 two slow (bits s (8 * headerSize h) (8 * sideBytes mpeg1 two)))) (λ e. refl)
+    (λ e. pick-only _ _ _ _ refl (side-in-but 13 refl refl _ mpeg1 two slow (bits s (8 * headerSize h) (8 * sideBytes mpeg1 two)))) (λ e. refl)
 
 -- ---- the three ways
 -- a frame all of whose bytes are there

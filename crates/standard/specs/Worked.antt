@@ -7,12 +7,13 @@ use lib.ListN.{length, take, replicate, set}
 use Rattle.standard.specs.Told.{refused, pick, toldOr}
 use Rattle.standard.specs.Bits.{bitAt, bits, between, valueFrom, value, field, flag, fieldAt}
 use Rattle.standard.specs.Rows.{member, later, place}
+use Rattle.standard.specs.Crc.{differ, added, taps, feed, fed, checkWord, covered, crcFits}
 use Rattle.standard.specs.Codes.{lowBits, pair, quad, starts, first, begun, decode, silent, table1, tableB, codes, published, wordOf, escapes, escapeWidth}
 use Rattle.standard.specs.Bands.{longRows, shortRows, longStart, shortStart}
 use Rattle.standard.specs.Lengths.{slenRows, slen1, slen2, rangeIn, lowRange, ordinaryLengths, intensityLengths, lowLengths, longCounts, shortCounts, mixedCounts, intensityLongCounts, intensityShortCounts, intensityMixedCounts, lowCounts}
 use Rattle.standard.specs.Header.{bitrates, rates, versionOf, emphasisOf, channelsOf, fields, lastBytes, secondByte, headerOf, sameBitrate, sameRate, isHeader, headerSize, dataSize, frameLength, sideSize, mainSize, granules, channelCount, noHeader}
 use Rattle.standard.specs.Record.{blockOf, preflagOf, longOf, switchedOf, recordIn, recordOf, absent}
-use Rattle.standard.specs.SideInfo.{thenRecords, recordsOf, thenSide, sideIn, sideFrom, sideOf, noSide}
+use Rattle.standard.specs.SideInfo.{thenRecords, recordsOf, thenSide, sideIn, absentFrom, sideFrom, sideOf, noSide}
 use Rattle.standard.specs.Factors.{planBy, planOf, group, groupsFrom, planBits, factorsFrom, longFactors, shortFactors}
 use Rattle.standard.specs.Numbers.{escaped, magnitudeOf, signOf, signed, further, thenSign, numberIn, twoLast, twoFirst, twoOf, pairAfter, pairWord, pairOf, quadLast, quadFirst, quadWord, quadOf, regionsBy, tableAt, prepend, thenPairs, pairs, thenQuads, quads, thenRest, numbersBy, quiet, numbersOf, padded}
 use Rattle.standard.specs.Slots.{Outcome, stopped, holds, isStopped, longOf as longFactorsOf, anyOf, withFactors, slotBy, slotOf, sharesOf, settingOf, alone, mateOf, slotIn, thenSlots, slotsFrom, slotsOf}
@@ -23,7 +24,7 @@ use Rattle.standard.specs.declared.SampleRate.{SampleRate}
 use Rattle.standard.specs.declared.SampleRate.the-variants.{Hz44100}
 use Rattle.standard.specs.declared.Shape.{Shape}
 use Rattle.standard.specs.declared.Shape.the-variants.{AllShort, LongThenShort}
-use Rattle.standard.specs.declared.Refusal.the-variants.{MissingBits, FactorOverrun, LostShare, PairOverrun, ShortReservoir, ReservedVersion, ReservedLayer, OtherLayer, FreeBitrate, ForbiddenBitrate, ReservedRate, TooManyPairs, MixedBlock}
+use Rattle.standard.specs.declared.Refusal.the-variants.{MissingBits, FactorOverrun, LostShare, PairOverrun, ShortReservoir, ReservedVersion, ReservedLayer, OtherLayer, FreeBitrate, ForbiddenBitrate, ReservedRate, AbsentBytes, WrongCrc, TooManyPairs, MixedBlock}
 use Rattle.standard.specs.declared.Refusal.{Refusal}
 use Rattle.standard.specs.declared.Verdict.{Verdict}
 use Rattle.standard.specs.declared.Verdict.the-variants.{Accepted, Refused}
@@ -61,7 +62,7 @@ reachingBack n = set frameF 4 n
 
 -- ---- a frame's step from its bytes and the reservoir's, and its parts
 unfoldable pub step : List ℕ → List ℕ → Step
-unfolding pick bitAt bits between valueFrom value field flag fieldAt member later place lowBits pair quad starts first begun decode silent table1 tableB codes published wordOf escapes escapeWidth longRows shortRows longStart shortStart slenRows slen1 slen2 rangeIn lowRange ordinaryLengths intensityLengths lowLengths longCounts shortCounts mixedCounts intensityLongCounts intensityShortCounts intensityMixedCounts lowCounts bitrates rates versionOf emphasisOf channelsOf fields lastBytes secondByte headerOf sameBitrate sameRate isHeader headerSize dataSize frameLength sideSize mainSize granules channelCount noHeader blockOf preflagOf longOf switchedOf recordIn recordOf absent thenRecords recordsOf thenSide sideIn sideFrom sideOf noSide planBy planOf group groupsFrom planBits factorsFrom longFactors shortFactors escaped magnitudeOf signOf signed further thenSign numberIn twoLast twoFirst twoOf pairAfter pairWord pairOf quadLast quadFirst quadWord quadOf regionsBy tableAt prepend thenPairs pairs thenQuads quads thenRest numbersBy quiet numbersOf padded isStopped longFactorsOf anyOf withFactors slotBy slotOf sharesOf settingOf alone mateOf slotIn thenSlots slotsFrom slotsOf reaching adding turnOf noStep shortStep fullStep withTurn withSide withHeader frameOf
+unfolding pick bitAt bits between valueFrom value field flag fieldAt member later place lowBits pair quad starts first begun decode silent table1 tableB codes published wordOf escapes escapeWidth longRows shortRows longStart shortStart slenRows slen1 slen2 rangeIn lowRange ordinaryLengths intensityLengths lowLengths longCounts shortCounts mixedCounts intensityLongCounts intensityShortCounts intensityMixedCounts lowCounts bitrates rates versionOf emphasisOf channelsOf fields lastBytes secondByte headerOf sameBitrate sameRate isHeader headerSize dataSize frameLength sideSize mainSize granules channelCount noHeader blockOf preflagOf longOf switchedOf recordIn recordOf absent thenRecords recordsOf thenSide sideIn absentFrom sideFrom sideOf noSide differ added taps feed fed checkWord covered crcFits planBy planOf group groupsFrom planBits factorsFrom longFactors shortFactors escaped magnitudeOf signOf signed further thenSign numberIn twoLast twoFirst twoOf pairAfter pairWord pairOf quadLast quadFirst quadWord quadOf regionsBy tableAt prepend thenPairs pairs thenQuads quads thenRest numbersBy quiet numbersOf padded isStopped longFactorsOf anyOf withFactors slotBy slotOf sharesOf settingOf alone mateOf slotIn thenSlots slotsFrom slotsOf reaching adding turnOf noStep shortStep fullStep withTurn withSide withHeader frameOf
 step s old = frameOf s old
 
 unfoldable pub verdict : List ℕ → Verdict
@@ -200,8 +201,46 @@ quietTable =
     with (frame1With sideLost (replicate 75 0x00)) (replicate 75 0x00) (stopped FactorOverrun ∷ stopped LostShare ∷ []) ∷
     []
 
+-- ---- and those of the CRC
+-- F with a CRC, other side information and main data
+abbrev checkedF : ℕ → ℕ → List ℕ → List ℕ → List ℕ
+checkedF c d side main = 0xFF ∷ 0xF2 ∷ 0x14 ∷ 0xC0 ∷ c ∷ d ∷ (side ++ main)
+
+abbrev sideF : List ℕ
+sideF = 0x00 ∷ 0x00 ∷ 0x40 ∷ 0x07 ∷ 0x48 ∷ 0x00 ∷ 0x08 ∷ 0x00 ∷ 0x01 ∷ []
+
+-- what a CRC leaves of F's main data
+abbrev mainChecked : List ℕ
+mainChecked = 0x7A ∷ replicate 8 0x00
+
+-- 289 pairs
+abbrev side289 : List ℕ
+side289 = 0x00 ∷ 0x00 ∷ 0x44 ∷ 0x87 ∷ 0x48 ∷ 0x00 ∷ 0x00 ∷ 0x00 ∷ 0x01 ∷ []
+
+-- MPEG-1 in two channels: 32 bytes of side information, the last of them n
+abbrev stereo : ℕ → List ℕ
+stereo n =
+    0xFF ∷ 0xFA ∷ 0x90 ∷ 0x00 ∷ 0xFF ∷ 0x17 ∷
+    (0x00 ∷ 0x00 ∷ 0x00 ∷ 0x00 ∷ 0x00 ∷ 0x69 ∷ 0x00 ∷ 0x00 ∷ 0x00 ∷ 0x02 ∷ 0x00 ∷ 0x00 ∷ 0x0D ∷ 0x20 ∷ 0x00 ∷ 0x00 ∷
+    0x00 ∷ 0x40 ∷ 0x00 ∷ 0x01 ∷ 0xA4 ∷ 0x00 ∷ 0x00 ∷ 0x00 ∷ 0x08 ∷ 0x00 ∷ 0x00 ∷ 0x34 ∷ 0x80 ∷ 0x00 ∷ 0x00 ∷ n ∷ replicate 379 0x00)
+
+abbrev crcTable : List Row
+crcTable =
+    with (checkedF 0x5F 0xB1 sideF mainChecked) mainChecked (read numbersF ∷ []) ∷
+    refusedFor (checkedF 0x00 0x00 sideF mainChecked) WrongCrc ∷
+    with (stereo 0x01) (replicate 379 0x00) (read [] ∷ read [] ∷ read [] ∷ read [] ∷ []) ∷
+    refusedFor (stereo 0x00) WrongCrc ∷
+    -- before 10, whose side information is read only where the CRC fits; before 13; and before the main data is found absent
+    refusedFor (checkedF 0xDB 0xDB side289 mainChecked) WrongCrc ∷
+    refusedFor (checkedF 0xDB 0xDA side289 mainChecked) TooManyPairs ∷
+    refusedFor (checkedF 0xD9 0xD3 (set sideF 0 0x01) mainChecked) WrongCrc ∷
+    refusedFor (checkedF 0x5F 0xB2 sideF []) WrongCrc ∷
+    -- after the bytes that it covers
+    refusedFor (checkedF 0x5F 0xB2 (take 8 sideF) []) (AbsentBytes 14) ∷
+    []
+
 abbrev pub table : List Row
-table = plainTable ++ addedTable ++ quietTable
+table = plainTable ++ addedTable ++ quietTable ++ crcTable
 
 -- F's slot from other main data than its own
 unfoldable pub slotsBy : List ℕ → List ℕ → List Outcome
@@ -287,8 +326,35 @@ quiet-so : AllSo IsSo quietTable
 unfolding step
 quiet-so = ((refl, refl, refl), ((refl, refl, refl), ((refl, refl, refl), ((refl, refl, refl), tt))))
 
+crc-so : AllSo IsSo crcTable
+unfolding step
+crc-so = (
+  (refl, refl, refl),
+  (
+    (refl, refl, refl),
+    (
+      (refl, refl, refl),
+      (
+        (refl, refl, refl),
+        ((refl, refl, refl), ((refl, refl, refl), ((refl, refl, refl), ((refl, refl, refl), ((refl, refl, refl), tt))))),
+      ),
+    ),
+  ),
+)
+
 pub starred : AllSo IsSo table
-starred = all-append IsSo (plainTable ++ addedTable) quietTable (all-append IsSo plainTable addedTable plain-so added-so) quiet-so
+starred =
+    all-append IsSo (plainTable ++ addedTable ++ quietTable) crcTable
+    (all-append IsSo (plainTable ++ addedTable) quietTable (all-append IsSo plainTable addedTable plain-so added-so) quiet-so) crc-so
+
+-- the check words that are published for this polynomial so started: of the nine digits 1 to 9 in ASCII, and of none
+pub nine-digits : value (checkWord (bits (0x31 ∷ 0x32 ∷ 0x33 ∷ 0x34 ∷ 0x35 ∷ 0x36 ∷ 0x37 ∷ 0x38 ∷ 0x39 ∷ []) 0 72)) ≡ 0xAEE7
+unfolding value valueFrom bits bitAt checkWord fed feed added taps differ
+nine-digits = refl
+
+pub no-bits : value (checkWord []) ≡ 0xFFFF
+unfolding value valueFrom checkWord fed
+no-bits = refl
 
 -- ---- the other rows: after the frame that was refused by 13
 pub then-begin-11 : step (reachingBack 11) mainF .slots ≡ read numbersF ∷ []

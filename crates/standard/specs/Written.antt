@@ -1,7 +1,7 @@
 -- Numbers written down as bits are read back: v in n bits, fields one after the other, and eight bits to a byte.
 -- The last of n bits is v's lowest; a field is found by dropping those before it; a bit of a byte is the field of one bit at its place.
 use mathlib.Core.Path.{_≡_, refl, sym, ap, _∙_}
-use mathlib.Core.Bool.{Bool, false}
+use mathlib.Core.Bool.{Bool, true, false}
 use mathlib.Core.List.{List, [], _∷_, _++_, append-assoc, append-nil}
 use Prim.Native.Nat.{ℕ, zero, suc, _+_, _-_, _*_, _/_, _%_, _^_, _<_}
 use native.Mathlib.Nat.{pow-succ'}
@@ -10,7 +10,7 @@ use lib.Dec.{eqb}
 use lib.ListN.{length, getD, take, drop, length-append, length-take, length-drop, take-append-drop}
 use lib.Seq.{take-at, drop-at, drop-drop, ext-getD}
 use Rattle.standard.specs.Bits.{bitAt, bits, one, valueFrom, value, field, flag}
-use Rattle.standard.specs.BitsLaws.{length-bits, bits-add, value-lt, value-append, field-value, getD-bits, flag-getD, bits-after}
+use Rattle.standard.specs.BitsLaws.{length-bits, bits-add, value-lt, value-below, value-append, field-value, getD-bits, flag-getD, bits-after}
 
 -- ---- v in n bits
 unfoldable pub bitsOf : ℕ → ℕ → List Bool
@@ -38,6 +38,26 @@ value-bitsOf (suc n) v h =
   where
     whole : 2 * (v / 2) + v % 2 ≡ v
     whole = omega arith
+
+-- ---- bits of one number are those that spell it
+pub value-one : (b c : List Bool) (i j : ℕ) → length b ≡ length c → valueFrom i b ≡ valueFrom j c → (i ≡ j) × (b ≡ c)
+unfolding valueFrom
+value-one [] [] i j l e = (e, refl)
+value-one [] (y ∷ c) i j l e = absurd (omega arith)
+value-one (x ∷ b) [] i j l e = absurd (omega arith)
+value-one (x ∷ b) (y ∷ c) i j l e =
+    let k = value-one b c (2 * i + one x) (2 * j + one y) (omega arith) e in
+    let q = apart x y i j (k .0) in (q .0, λ n. q .1 n ∷ k .1 n)
+  where
+    apart : (x y : Bool) (i j : ℕ) → 2 * i + one x ≡ 2 * j + one y → (i ≡ j) × (x ≡ y)
+    apart true true i j e = (omega arith, refl)
+    apart true false i j e = absurd (omega arith)
+    apart false true i j e = absurd (omega arith)
+    apart false false i j e = (omega arith, refl)
+
+pub bits-own : (n : ℕ) (b : List Bool) → length b ≡ n → bitsOf n (value b) ≡ b
+unfolding value
+bits-own n b l = value-one (bitsOf n (value b)) b 0 0 (length-bitsOf n (value b) ∙ sym l) (value-bitsOf n (value b) (value-below b n l)) .1
 
 -- ---- fields one after the other
 pub data Part : Type 0 where

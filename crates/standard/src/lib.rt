@@ -143,6 +143,7 @@ pub enum Refusal {
     ForbiddenBitrate,
     ReservedRate,
     ReservedEmphasis,
+    WrongCrc,
     TooManyPairs,
     ForbiddenBlock,
     MixedBlock,

@@ -2,6 +2,8 @@
 use Rattle.demands.proofs.Call.{OneAnswer, alike}
 use Rattle.bits.proofs.bit.Reads as bit
 use Rattle.bits.proofs.bit.Kinds as bit-kinds
+use Rattle.bits.proofs.byte.Reads as byte
+use Rattle.bits.proofs.byte.Kinds as byte-kinds
 use Rattle.bits.proofs.field.Reads as field
 use Rattle.bits.proofs.field.Kinds as field-kinds
 use Rattle.bits.proofs.one.Reads as one
@@ -11,6 +13,9 @@ use Rattle.bits.proofs.left.Kinds as left-kinds
 
 pub bit-unique : OneAnswer bit-kinds.ps bit-kinds.r bit.Post
 bit-unique κs a x y s t p q = alike p q
+
+pub byte-unique : OneAnswer byte-kinds.ps byte-kinds.r byte.Post
+byte-unique κs a x y s t p q = alike (p .0) (q .0)
 
 pub field-unique : OneAnswer field-kinds.ps field-kinds.r field.Post
 field-unique κs a x y s t p q = alike p q

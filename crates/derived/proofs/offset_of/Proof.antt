@@ -7,14 +7,14 @@ use denote.Enum.Declared.{tagOf}
 use types.Run.{OneOf, miss}
 use Rattle.standard.proofs.Refusal.{the-type}
 use Rattle.standard.specs.declared.Refusal.{Refusal}
-use Rattle.standard.specs.declared.Refusal.the-variants.{AbsentBytes, UnfitMemory, MadeUpRecord, NoSync, ReservedVersion, ReservedLayer, OtherLayer, FreeBitrate, ForbiddenBitrate, ReservedRate, ReservedEmphasis, TooManyPairs, ForbiddenBlock, MixedBlock, ShortReservoir, MissingBits, FactorOverrun, LostShare, PairOverrun, NoCodeword}
+use Rattle.standard.specs.declared.Refusal.the-variants.{AbsentBytes, UnfitMemory, MadeUpRecord, NoSync, ReservedVersion, ReservedLayer, OtherLayer, FreeBitrate, ForbiddenBitrate, ReservedRate, ReservedEmphasis, WrongCrc, TooManyPairs, ForbiddenBlock, MixedBlock, ShortReservoir, MissingBits, FactorOverrun, LostShare, PairOverrun, NoCodeword}
 use Rattle.standard.specs.Refusals.{offsetOf}
 use Rattle.derived.proofs.offset_of.Statement.{statement}
 use Rattle.derived.proofs.offset_of.Tie as tie
 
 -- the places of all other refusals in their declaration
 abbrev others : List ℕ
-others = 0 ∷ 1 ∷ 3 ∷ 4 ∷ 5 ∷ 6 ∷ 7 ∷ 8 ∷ 9 ∷ 10 ∷ 11 ∷ 12 ∷ 13 ∷ 14 ∷ 15 ∷ 16 ∷ 17 ∷ 18 ∷ 19 ∷ []
+others = 0 ∷ 1 ∷ 3 ∷ 4 ∷ 5 ∷ 6 ∷ 7 ∷ 8 ∷ 9 ∷ 10 ∷ 11 ∷ 12 ∷ 13 ∷ 14 ∷ 15 ∷ 16 ∷ 17 ∷ 18 ∷ 19 ∷ 20 ∷ []
 
 none : (r : Refusal) → OneOf others (tagOf the-type r) → 0 ≡ offsetOf r
 none (AbsentBytes n) k = absurd (miss others 2 tt k)
@@ -28,6 +28,7 @@ none FreeBitrate k = refl
 none ForbiddenBitrate k = refl
 none ReservedRate k = refl
 none ReservedEmphasis k = refl
+none WrongCrc k = refl
 none TooManyPairs k = refl
 none ForbiddenBlock k = refl
 none MixedBlock k = refl

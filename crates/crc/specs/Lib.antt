@@ -1,0 +1,2 @@
+-- Words that the functions of this crate promise with.
+pub mod Odd
