@@ -6,48 +6,38 @@ use mathlib.Core.Bool.{Bool, true, false}
 use mathlib.Core.List.{List, [], _∷_, _++_}
 use lib.ListN.{replicate}
 use Rattle.standard.specs.Crc.{differ, added, taps, feed, fed}
+use Rattle.standard.specs.CrcLaws.{differ-back}
 use Rattle.crc.specs.Odd.{oddFrom, oddOf}
 
-next : (o r b : Bool) → differ (differ r o) b ≡ differ o (differ r b)
+comm : (x y : Bool) → differ x y ≡ differ y x
 unfolding differ
-next true true true = refl
-next true true false = refl
-next true false true = refl
-next true false false = refl
-next false true true = refl
-next false true false = refl
-next false false true = refl
-next false false false = refl
-
--- what came out before is gone where two are added
-gone : (o x y : Bool) → differ (differ false o) (differ (differ o x) y) ≡ differ (differ false x) y
-unfolding differ
-gone true true true = refl
-gone true true false = refl
-gone true false true = refl
-gone true false false = refl
-gone false true true = refl
-gone false true false = refl
-gone false false true = refl
-gone false false false = refl
+comm true true = refl
+comm true false = refl
+comm false true = refl
+comm false false = refl
 
 pub assoc : (r o x : Bool) → differ r (differ o x) ≡ differ (differ r o) x
 unfolding differ
+assoc r o false = refl
+assoc r false true = refl
 assoc true true true = refl
-assoc true true false = refl
-assoc true false true = refl
-assoc true false false = refl
 assoc false true true = refl
-assoc false true false = refl
-assoc false false true = refl
-assoc false false false = refl
+
+pub swap : (o y x : Bool) → differ (differ o y) x ≡ differ (differ o x) y
+swap o y x = sym (assoc o y x) ∙ ap (differ o) (comm y x) ∙ assoc o x y
+
+next : (o r b : Bool) → differ (differ r o) b ≡ differ o (differ r b)
+next o r b = ap (λ (x : Bool). differ x b) (comm r o) ∙ sym (assoc o r b)
+
+-- what came out before is gone where two are added
+through : (o x : Bool) → differ (differ false o) (differ o x) ≡ differ false x
+through o x = assoc (differ false o) o x ∙ ap (λ (z : Bool). differ z x) (differ-back false o)
+
+gone : (o x y : Bool) → differ (differ false o) (differ (differ o x) y) ≡ differ (differ false x) y
+gone o x y = assoc (differ false o) (differ o x) y ∙ ap (λ (z : Bool). differ z y) (through o x)
 
 before : (o x : Bool) → differ false o ≡ differ (differ false x) (differ o x)
-unfolding differ
-before true true = refl
-before true false = refl
-before false true = refl
-before false false = refl
+before o x = sym (ap (differ (differ false x)) (comm o x) ∙ through x o)
 
 -- a bit comes out with all before it
 out : (r b : Bool) {o q : Bool} → o ≡ q → differ (differ r o) b ≡ differ q (differ r b)

@@ -15,7 +15,7 @@ use Rattle.standard.specs.BitsLaws.{one-le, value-below, value-two}
 use Rattle.standard.specs.Written.{bitsOf, bits-own}
 use Rattle.standard.specs.Crc.{differ, added, fed}
 use Rattle.crc.specs.Odd.{oddFrom, oddOf}
-use Rattle.crc.proofs.Bytes.{assoc, lowTaps, eight-fed}
+use Rattle.crc.proofs.Bytes.{assoc, swap, lowTaps, eight-fed}
 
 xor-one : (x y : Bool) → bitXor (one x) (one y) ≡ one (differ x y)
 unfolding differ
@@ -104,13 +104,6 @@ module _ (r15 r14 r13 r12 r11 r10 r9 r8 r7 r6 r5 r4 r3 r2 r1 r0 b7 b6 b5 b4 b3 b
       ∙ ap (λ (m : ℕ). bitXor m (value (lowTaps (oddOf x)))) (value-added (added A X1) X2 0 0 refl ∙ ap (λ (m : ℕ). bitXor m (value X2)) (value-added A X1 0 0 refl)))
 
 -- ---- whether an odd number of eight bits are set, by folding them to four
-swap : (o y x : Bool) → differ (differ o y) x ≡ differ (differ o x) y
-unfolding differ
-swap o true true = refl
-swap o true false = refl
-swap o false true = refl
-swap o false false = refl
-
 -- a bit counts wherever it stands
 odd-out : (o y : Bool) (p : List Bool) → oddFrom (differ o y) p ≡ differ (oddFrom o p) y
 unfolding oddFrom

@@ -10,7 +10,7 @@ use Rattle.standard.specs.ToldLaws.{never}
 use Rattle.standard.specs.Crc.{differ, added, taps, feed, fed, checkWord}
 
 -- ---- what is added twice is gone
-differ-back : (x y : Bool) → differ (differ x y) y ≡ x
+pub differ-back : (x y : Bool) → differ (differ x y) y ≡ x
 unfolding differ
 differ-back x false = refl
 differ-back true true = refl
