@@ -19,6 +19,7 @@ mod said;
 mod words;
 
 use frame::process_frame;
+use frame::read_slots;
 use input::Held;
 use input::blank;
 use input::fill;
@@ -31,7 +32,6 @@ use lines::part;
 use made_up::header_by;
 use made_up::header_in;
 use made_up::side_by;
-use main_data::read_slots;
 use program::say_program;
 use reorder::reorder;
 use reservoir::emptied;

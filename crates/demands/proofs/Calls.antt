@@ -7,8 +7,8 @@ use lib.ListN.{getD}
 use denote.Ref.{now}
 use Rattle.frame.proofs.process_frame.Reads as process-frame
 use Rattle.frame.proofs.process_frame.Kinds as process-frame-kinds
-use Rattle.main_data.proofs.read_slots.Reads as read-slots
-use Rattle.main_data.proofs.read_slots.Kinds as read-slots-kinds
+use Rattle.frame.proofs.read_slots.Reads as read-slots
+use Rattle.frame.proofs.read_slots.Kinds as read-slots-kinds
 use Rattle.reorder.proofs.reorder.Reads as reorder
 use Rattle.reorder.proofs.reorder.Kinds as reorder-kinds
 use Rattle.reservoir.proofs.turn.Reads as turn
@@ -29,10 +29,8 @@ use Rattle.derived.proofs.main_size.Reads as main-size
 use Rattle.derived.proofs.main_size.Kinds as main-size-kinds
 use Rattle.reservoir.proofs.emptied.Reads as emptied
 use Rattle.reservoir.proofs.emptied.Kinds as emptied-kinds
-use Rattle.codes.proofs.trees.trees.Reads as trees
-use Rattle.codes.proofs.trees.trees.Kinds as trees-kinds
-use Rattle.codes.proofs.lookup.Reads as lookup
-use Rattle.codes.proofs.lookup.Kinds as lookup-kinds
+use Rattle.huffman.proofs.lookup.Reads as lookup
+use Rattle.huffman.proofs.lookup.Kinds as lookup-kinds
 use Rattle.standard.specs.Bits.{between}
 use Rattle.standard.specs.Slots.{lackingSlot}
 use Rattle.standard.specs.declared.FrameHeader.{FrameHeader}
@@ -120,16 +118,16 @@ module _ (c : TurnCall) where
   abbrev pub turnBytesAfter : List ℕ
   turnBytesAfter = now (c .exit .0)
 
--- ---- read_huffman(trees, rate, record, bytes, place, end, numbers)
+-- ---- read_huffman(rate, record, bytes, place, end, numbers)
 abbrev pub HuffmanCall : Type 0
 HuffmanCall = Call read-huffman-kinds.ps read-huffman-kinds.r read-huffman.Post
 
 module _ (c : HuffmanCall) where
   abbrev pub huffmanNumbers : List ℤ
-  huffmanNumbers = now (c .args .1 .1 .1 .1 .1 .1 .0)
+  huffmanNumbers = now (c .args .1 .1 .1 .1 .1 .0)
 
   abbrev pub huffmanNumbersAfter : List ℤ
-  huffmanNumbersAfter = now (c .exit .1 .1 .1 .1 .1 .1 .0)
+  huffmanNumbersAfter = now (c .exit .1 .1 .1 .1 .1 .0)
 
 -- ---- read_frame_header(frame) and read_side_info(header, frame)
 abbrev pub HeaderCall : Type 0
@@ -164,20 +162,14 @@ MainSizeCall = Call main-size-kinds.ps main-size-kinds.r main-size.Post
 abbrev pub EmptiedCall : Type 0
 EmptiedCall = Call emptied-kinds.ps emptied-kinds.r emptied.Post
 
--- ---- trees(), and lookup(trees, table, bytes, place, end)
-abbrev pub TreesCall : Type 0
-TreesCall = Call trees-kinds.ps trees-kinds.r trees.Post
-
+-- ---- lookup(table, bytes, place, end)
 abbrev pub LookupCall : Type 0
 LookupCall = Call lookup-kinds.ps lookup-kinds.r lookup.Post
 
 module _ (c : LookupCall) where
-  abbrev pub lookupTrees : List ℕ
-  lookupTrees = now (c .args .0)
-
   abbrev pub lookupTable : ℕ
-  lookupTable = c .args .1 .0
+  lookupTable = c .args .0
 
   -- the bits that are there
   abbrev pub lookupBits : List Bool
-  lookupBits = between (now (c .args .1 .1 .0)) (c .args .1 .1 .1 .0) (c .args .1 .1 .1 .1 .0)
+  lookupBits = between (now (c .args .1 .0)) (c .args .1 .1 .0) (c .args .1 .1 .1 .0)

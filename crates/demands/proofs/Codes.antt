@@ -1,8 +1,7 @@
--- The Huffman codes, over the table number: a lookup in the trees reads a codeword of the published code; every code is complete, so some
+-- The Huffman codes, over the table number: a lookup reads a codeword of the published code; every code is complete, so some
 -- codeword is begun whatever the bits are; and each has one reading, so bits that start with a codeword are read as that one. So refusal 25
 -- cannot occur: no slot is answered by it.
--- Proved over the promises of trees, lookup, read_slots and process_frame, from CodesLaws and SlotBounds of `standard` and from the test of
--- the whole flat table beside the trees (looked-up).
+-- Proved over the promises of lookup, read_slots and process_frame, from CodesLaws and SlotBounds of `standard`.
 use mathlib.Core.Path.{_≡_, refl, sym, ap, _∙_}
 use mathlib.Core.Bool.{Bool, true, not}
 use mathlib.Core.List.{List}
@@ -12,7 +11,7 @@ use lib.IntN.{ℤ}
 use lib.ListN.{length, getD}
 use Rattle.standard.specs.ToldLaws.{never, clash}
 use Rattle.standard.specs.Refusals.{numberOf}
-use Rattle.standard.specs.Codes.{entry, starts, decode, published}
+use Rattle.standard.specs.Codes.{entry, starts, decode, published, wordOf}
 use Rattle.standard.specs.CodesLaws.{In, complete, one-reading}
 use Rattle.standard.specs.Slots.{Outcome, stopped, holds, slotTold}
 use Rattle.standard.specs.HaltLaws.{allowed, isOther}
@@ -20,16 +19,15 @@ use Rattle.standard.specs.SlotBounds.{never-alien}
 use Rattle.standard.specs.declared.SlotAnswer.{SlotAnswer}
 use Rattle.standard.specs.declared.Codeword.the-variants.{Coded, Alien}
 use Rattle.standard.specs.declared.Refusal.the-variants.{MissingBits, NoCodeword}
-use Rattle.codes.specs.Walk.{lookedUp}
-use Rattle.codes.proofs.Shown.{looked-up}
-use Rattle.demands.proofs.Calls.{slotSaid, TreesCall, LookupCall, lookupTrees, lookupTable, lookupBits, SlotsCall, slotsHeader, slotsInfo, mainData, FrameStep}
+use Rattle.demands.proofs.Calls.{slotSaid, LookupCall, lookupTable, lookupBits, SlotsCall, slotsHeader, slotsInfo, mainData, FrameStep}
 use Rattle.demands.proofs.Stored.{Answered, by-said, outcomesOf, slots-answered, each-slot, stepOf, frame-answered, each-of-frame}
 use Rattle.standard.specs.declared.SlotOutcome.the-variants.{NotRead}
 
--- ---- a lookup in the trees that `trees` answers
-module _ (t : TreesCall) (c : LookupCall) (lent : lookupTrees c ≡ t .answer) where
+-- ---- a lookup
+module _ (c : LookupCall) where
   pub published-code : c .answer ≡ decode (published (lookupTable c)) (lookupBits c)
-  published-code = c .promised ∙ ap (λ (f : List ℕ). lookedUp f (lookupTable c) (lookupBits c)) (lent ∙ t .promised) ∙ looked-up (lookupTable c) (lookupBits c)
+  unfolding wordOf
+  published-code = c .promised
 
   pub always-begun : c .answer ≡ Alien → ⊥
   always-begun e = complete (lookupTable c) (lookupBits c) (sym published-code ∙ e)

@@ -2,9 +2,9 @@
 -- answers, and leaves of what was lent, is the definition's for what went in, for every input. The definitions are those of `standard`; the
 -- published codes enter by Codes.antt. Every other public function is in the catalogue, docs/PROMISES.md, and has its theorem of one answer in
 -- Unique.
--- The readers that were to be shut out break these lines, and are tried by name as must-fail edits: one that refuses all (main_data/refuses_all),
--- one that gives 576 zeros (huffman/zeros_for_every_slot), one that writes nothing (huffman/writes_nothing), one that decodes the first slot and
--- fakes the others (main_data/first_slot_only), and one with an invented count or frame length (huffman/invented_count, frame/invented_length).
+-- The readers that were to be shut out break these lines. One that decodes the first slot and fakes the others, and one with an invented frame length, are tried by name
+-- as must-fail edits (frame/first_slot_only, frame/invented_length); one that refuses all, one that gives 576 zeros or writes nothing, and one with an invented
+-- count are shut out by frames given by their bytes (Worked).
 use mathlib.Core.Path.{_≡_}
 use lib.ListN.{length}
 use denote.Ref.{now}

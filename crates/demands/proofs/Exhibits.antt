@@ -16,7 +16,7 @@ use Rattle.standard.specs.ToldLaws.{passed}
 use Rattle.standard.specs.RefusalsLaws.{answers-told}
 use Rattle.standard.specs.RowsLaws.{every, every-at}
 use Rattle.standard.specs.Written.{Bytes}
-use Rattle.standard.specs.Codes.{entry, starts, published, codes, table1, pair, lowBits}
+use Rattle.standard.specs.Codes.{wordOf, entry, starts, published, codes, table1, pair, lowBits}
 use Rattle.standard.specs.CodesLaws.{In, here}
 use Rattle.standard.specs.Bits.{between}
 use Rattle.standard.specs.Header.{headerOf, isHeader, mainSize, noHeader}
@@ -44,11 +44,9 @@ use Rattle.standard.specs.declared.Reservoir.{Reservoir}
 use Rattle.standard.specs.declared.Verdict.{Verdict}
 use Rattle.standard.specs.declared.Verdict.the-variants.{Accepted, Refused}
 use Rattle.standard.specs.declared.Refusal.the-variants.{UnfitMemory, FreeBitrate, ShortReservoir, MissingBits, PairOverrun}
-use Rattle.codes.specs.Walk.{lookedUp}
 use Rattle.huffman.specs.Slot.{slotNumbers, toldCount, countOf, numbersAfter}
 use Rattle.huffman.specs.declared.HuffmanAnswer.the-variants.{Uncounted}
-use Rattle.codes.specs.Flat.{trees}
-use Rattle.demands.proofs.Calls.{HuffmanCall, slotSaid, FrameStep, frame, bytes, reservoir, numbers, SlotsCall, slotsHeader, slotsInfo, mainData, slotsNumbers, TurnCall, ReorderCall, reorderHeader, reorderRecord, reorderNumbers, SideInfoCall, IsHeaderCall, IsSideInfoCall, IsRecordCall, MainSizeCall, EmptiedCall, TreesCall, LookupCall, lookupTrees, lookupTable, lookupBits}
+use Rattle.demands.proofs.Calls.{HuffmanCall, slotSaid, FrameStep, frame, bytes, reservoir, numbers, SlotsCall, slotsHeader, slotsInfo, mainData, slotsNumbers, TurnCall, ReorderCall, reorderHeader, reorderRecord, reorderNumbers, SideInfoCall, IsHeaderCall, IsSideInfoCall, IsRecordCall, MainSizeCall, EmptiedCall, LookupCall, lookupTable, lookupBits}
 use Rattle.demands.proofs.Made.{lend, answerOf, answersOf, fourOf, frameStep, slotsCall, sideInfoCall, reorderCall, turnCall}
 use Rattle.front_end.specs.Calls.{perRows, callTold, rowsAfter, frameStep as stepIn, frameTold, slotsStep, reorderStep}
 use Rattle.demands.proofs.Exported.{ExportedFrame, ExportedSlots, ExportedReorder}
@@ -180,10 +178,10 @@ pub huffman-refused : (c : HuffmanCall) × (toldCount (c .answer) ≡ refused Un
 unfolding slotNumbers pick countOf numbersAfter
 huffman-refused = (
   record {
-    lifetimes = ([], ([], ([], tt)));
-    args = (lend [], (header .rate, (absent, (lend [], (0, (0, (lend [], tt)))))));
+    lifetimes = ([], ([], tt));
+    args = (header .rate, (absent, (lend [], (0, (0, (lend [], tt))))));
     answer = Uncounted UnfitMemory;
-    exit = (lend [], (header .rate, (absent, (lend [], (0, (0, (lend [], tt)))))));
+    exit = (header .rate, (absent, (lend [], (0, (0, (lend [], tt))))));
     promised = (refl, refl);
   },
   refl,
@@ -300,21 +298,20 @@ pub in-turn : (start : EmptiedCall) × InTurn (start .answer) (f 0 ∷ [])
 unfolding f a-frame frameStep nothing
 in-turn = (record { lifetimes = tt; args = tt; answer = nothing; exit = tt; promised = refl }, (refl, f-bytes, tt))
 
--- ---- Codes: a lookup in table 1 over the trees, where the bits are the codeword 1 of the pair 0, 0
+-- ---- Codes: a lookup in table 1, where the bits are the codeword 1 of the pair 0, 0
 abbrev looking : LookupCall
 looking =
     record {
-      lifetimes = ([], ([], tt));
-      args = (lend trees, (1, (lend (0x80 ∷ []), (0, (1, tt)))));
-      answer = lookedUp trees 1 (between (0x80 ∷ []) 0 1);
-      exit = (lend trees, (1, (lend (0x80 ∷ []), (0, (1, tt)))));
+      lifetimes = ([], tt);
+      args = (1, (lend (0x80 ∷ []), (0, (1, tt))));
+      answer = wordOf 1 (between (0x80 ∷ []) 0 1);
+      exit = (1, (lend (0x80 ∷ []), (0, (1, tt))));
       promised = refl;
     }
 
-pub looked : (t : TreesCall) × (lookupTrees looking ≡ t .answer) × In (entry 0 (true ∷ [])) (published (lookupTable looking))
-    × (starts (true ∷ []) (lookupBits looking) ≡ true)
+pub looked : In (entry 0 (true ∷ [])) (published (lookupTable looking)) × (starts (true ∷ []) (lookupBits looking) ≡ true)
 unfolding published codes table1 pair lowBits starts step
-looked = (record { lifetimes = tt; args = tt; answer = trees; exit = tt; promised = refl }, refl, here, refl)
+looked = (here, refl)
 
 -- ---- Exported: calls made from values; refused for the memory, and, as the frame step, by 13
 unfoldable pub exported : (s lent : List ℕ) (stated : ℕ) (d : List ℤ) (rows : List ℕ) → ExportedFrame

@@ -6,15 +6,12 @@ pub mod BitReader
 pub mod Crc
 pub mod LentBytes
 pub mod Tables
-pub mod Codes
-pub mod Pairs
 pub mod Derived
 pub mod Header
 pub mod RecordCheck
 pub mod SideInfo
 pub mod ScaleFactors
 pub mod Huffman
-pub mod MainData
 pub mod Reservoir
 pub mod Frame
 pub mod Reorder

@@ -1,1 +1,4 @@
+pub mod Sharing
+pub mod Slots
 pub mod Stages
+pub mod Turns

@@ -1,17 +1,20 @@
 -- What a frame's accepted header and side information say of its sizes: its main data fits the reservoir's memory.
-use mathlib.Core.Path.{_≡_, refl, sym, _∙_, subst}
-use mathlib.Core.Bool.{Bool, true, false}
+use mathlib.Core.Path.{_≡_, sym, _∙_, subst}
+use mathlib.Core.Bool.{true}
 use mathlib.Core.List.{List}
 use Prim.Native.Nat.{ℕ, _+_, _-_, _≤_}
 use native.Mathlib.Omega.{arith}
 use lib.IntN.{ℤ}
 use lib.ListN.{length, take, drop, length-drop}
 use lib.Seq.{length-take-le}
-use Rattle.standard.specs.Told.{Told, refused, told, pick}
-use Rattle.standard.specs.RefusalsLaws.{apart}
-use Rattle.standard.specs.Header.{isMpeg1, isTwo, isSlow, isHeader, headerOf, headerSize, sideSize, mainSize, frameLength}
+use Rattle.standard.specs.Sizes.{reservoirBytes}
+use Rattle.standard.specs.Told.{told}
+use Rattle.standard.specs.ToldLaws.{picked}
+use Rattle.standard.specs.Written.{Bytes}
+use Rattle.standard.specs.Header.{isHeader, headerOf, headerSize, sideSize, mainSize, frameLength}
 use Rattle.standard.specs.HeaderLaws.{main-and-side, reservoir-le}
-use Rattle.standard.specs.SideInfo.{sideFrom, sideOf, isSide}
+use Rattle.standard.specs.HeaderBytes.{header-known}
+use Rattle.standard.specs.SideInfo.{sideUnder, sideOf, isSide}
 use Rattle.standard.specs.Reservoir.{turnOf, turnIn, Turned}
 use Rattle.standard.specs.ReservoirLaws.{fitting}
 use Rattle.standard.specs.Frame.{withTurn, frameOf, FrameRead}
@@ -21,17 +24,11 @@ use Rattle.standard.specs.declared.SideInfo.{SideInfo}
 use Rattle.standard.specs.declared.Reservoir.{Reservoir}
 use Rattle.standard.specs.declared.ReservoirAnswer.{ReservoirAnswer}
 use Rattle.standard.specs.declared.FrameAnswer.{FrameAnswer}
-use Rattle.standard.specs.declared.Refusal.the-variants.{MadeUpRecord}
 
-asked : {A : Type 0} (x : Told A) {a : A} (b : Bool) → pick b x (refused MadeUpRecord) ≡ told a → b ≡ true
-unfolding pick
-asked x true e = refl
-asked x false e = apart e
-
--- side information is read only under a header that some bytes read to
-pub side-header : (h : FrameHeader) (i : SideInfo) (s : List ℕ) → sideOf h s ≡ told i → isHeader h ≡ true
+-- under a header that the frame's bytes read to, its parts are what is asked
+pub side-read : (h : FrameHeader) (s : List ℕ) → Bytes s → headerOf s ≡ told h → sideOf h s ≡ sideUnder h s
 unfolding sideOf
-side-header h i s e = asked (sideFrom (h .crc) (isMpeg1 (h .version)) (isTwo (h .channels)) (isSlow (h .rate)) (headerSize h) s) (isHeader h) e
+side-read h s b e = picked _ (header-known s h b e)
 
 pub parts : (h : FrameHeader) → isHeader h ≡ true → headerSize h + sideSize h + mainSize h ≡ frameLength h
 unfolding frameLength
@@ -44,8 +41,8 @@ main-length h s {a} {b} {m} k l p q e =
     length-take-le (a + b + m - (a + b)) (drop (a + b) s) (simp length-drop (omega (arith, l, p, q, e, parts h k))) ∙ omega (arith, e)
 
 -- so its turn is never refused for the memory
-pub fits-turn : (h : FrameHeader) (i : SideInfo) (main : List ℕ) {lent left : List ℕ} {old : Reservoir} {a : ReservoirAnswer} → 4096 ≤ length lent
-    → old .length ≤ 4096
+pub fits-turn : (h : FrameHeader) (i : SideInfo) (main : List ℕ) {lent left : List ℕ} {old : Reservoir} {a : ReservoirAnswer} → reservoirBytes ≤ length lent
+    → old .length ≤ reservoirBytes
     → isHeader h ≡ true → isSide h i ≡ true → length main ≡ mainSize h → Turned lent old (turnIn lent (old .length) (i .«main_data_begin») main) a left
     → Turned lent old (told (turnOf (i .«main_data_begin») (take (old .length) lent) main)) a left
 fits-turn h i main {lent} {left} {old} {a} l s k f m t =

@@ -1,2 +1,3 @@
 -- What the helpers' contracts say beside the definition.
 pub mod Reasons
+pub mod Slot

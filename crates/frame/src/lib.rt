@@ -1,15 +1,19 @@
-// One frame of a recording, from its bytes and what the frames before it left in the reservoir.
+// One frame of a recording, from its bytes and what the frames before it left in the reservoir; and its slots from given main data: each cut out by the lengths
+// before it, read, and answered.
+use crate::answers::lacking_slots;
+use crate::answers::no_slots;
+use crate::frame_slots::slots_from;
 use derived::frame_length;
 use derived::header_size;
 use derived::main_size;
 use derived::side_size;
+use header::is_header;
 use header::no_header;
 use header::read_frame_header;
-use main_data::answers::lacking_slots;
-use main_data::read_slots;
+use record_check::is_side_info;
 use reservoir::turn;
-use side_info::read_side_info;
 use side_info::side::no_side;
+use side_info::side_under;
 use standard::FRAME_NUMBERS;
 use standard::FrameAnswer;
 use standard::FrameHeader;
@@ -18,6 +22,7 @@ use standard::RESERVOIR_BYTES;
 use standard::Refusal;
 use standard::Reservoir;
 use standard::SideInfo;
+use standard::SlotsAnswer;
 use standard::Verdict;
 ghost use mathlib.Core.Path.{_≡_};
 ghost use mathlib.Core.Bool.{true};
@@ -28,10 +33,15 @@ ghost use Rattle.standard.specs.Sizes.{reservoirBytes, perFrame};
 ghost use Rattle.standard.specs.Told.{told};
 ghost use Rattle.standard.specs.Header.{headerOf, mainSize, noHeader, isHeader};
 ghost use Rattle.standard.specs.SideInfo.{noSide, isSide};
-ghost use Rattle.standard.specs.Slots.{slotsTold};
+ghost use Rattle.standard.specs.Slots.{slotsTold, readSlots, SlotsRead};
 ghost use Rattle.standard.specs.Reservoir.{turnOf};
 ghost use Rattle.standard.specs.Frame.{withTurn, frameOf, frameCall, FrameRead};
 ghost use Rattle.frame.specs.Reasons.{reasonOf};
+
+pub mod answers;
+mod frame_slots;
+mod setting;
+mod slot;
 
 // A refused frame tells nothing, and the reservoir stays.
 fn refused(reason: Refusal, reservoir: Reservoir) -> FrameAnswer
@@ -92,8 +102,7 @@ fn with_main(
             reservoir: kept,
         };
     }
-    let s = read_slots(h, i, &bytes[..kept.length], numbers);
-    let slots = s.slots;
+    let slots = slots_from(h, i, &bytes[..kept.length], numbers);
     FrameAnswer {
         verdict: Verdict::Accepted,
         header: h,
@@ -117,14 +126,15 @@ fn with_header(
     ensures { λ r. ⌜ FrameRead (now (bytes .entry)) reservoir (now (numbers .entry))
         (frameOf (now (frame .entry)) (take (reservoir .length) (now (bytes .entry)))) r (now (bytes .exit)) (now (numbers .exit)) ⌝ }
 {
-    let a = read_side_info(h, frame);
+    let there = frame.len();
+    let a = side_under(h, frame);
     let i = a.info;
     let verdict = a.verdict;
     if let Verdict::Refused(why) = verdict {
         return refused(why, reservoir);
     }
-    if frame.len() < frame_length(h) {
-        let offset = frame.len() as u16;
+    if there < frame_length(h) {
+        let offset = there as u16;
         return refused(Refusal::AbsentBytes { offset }, reservoir);
     }
     let from = header_size(h) + side_size(h);
@@ -158,4 +168,22 @@ pub fn process_frame(
         return refused(refusal_of(a), reservoir);
     };
     with_header(h, frame, bytes, reservoir, numbers)
+}
+
+// The slots of a frame under its header and side information, from main data of any length. The n-th slot's numbers are the 576
+// from 576 n on; those of a refused slot, and those past the frame's last slot, stay.
+pub fn read_slots(h: FrameHeader, i: SideInfo, main: &[u8], numbers: &mut [i32]) -> SlotsAnswer
+    ensures { λ r. ⌜ SlotsRead (now (numbers .entry)) (readSlots h i (now (main .entry)) (length (now (numbers .entry)))) r (now (numbers .exit)) ⌝ }
+{
+    if numbers.len() < FRAME_NUMBERS {
+        return no_slots(Refusal::UnfitMemory);
+    }
+    if is_header(h) & is_side_info(h, i) {
+        let slots = slots_from(h, i, main, numbers);
+        return SlotsAnswer {
+            verdict: Verdict::Accepted,
+            slots,
+        };
+    }
+    no_slots(Refusal::MadeUpRecord)
 }

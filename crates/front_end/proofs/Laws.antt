@@ -32,7 +32,7 @@ use Rattle.standard.specs.SideInfo.{sideOf, noSide}
 use Rattle.standard.specs.Reorder.{reorderOf}
 use Rattle.standard.specs.Record.{pastRecord}
 use Rattle.fields.specs.Values.{scaleValues}
-use Rattle.main_data.proofs.Turns.{four-at-most}
+use Rattle.frame.proofs.Turns.{four-at-most}
 use Rattle.front_end.specs.declared.FrameTold.{FrameTold}
 use Rattle.front_end.specs.declared.CallTold.{CallTold}
 use Rattle.front_end.specs.Calls.{perRow, perRows, callTold, saidNumber, saidCount, slotRow, rowsFrom, rowsAfter, following, under, reorderBy, reorderStep, ReorderDone, slotsStep, recordsIn, SlotsDone, frameStep, frameTold, FrameDone}

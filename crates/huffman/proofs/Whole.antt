@@ -1,8 +1,9 @@
 -- Why a slot's pairs and quads together leave what the definition says: what was read stands first, behind it stand the zeros that stood
 -- there before, and that is the padded whole.
 use mathlib.Core.Path.{_≡_, refl, sym, ap, _∙_, subst}
+use mathlib.Core.Bool.{Bool}
 use mathlib.Core.List.{List, [], _∷_, _++_}
-use Prim.Native.Nat.{ℕ, zero, suc, _-_, _*_, _/_, _≤_, _<_}
+use Prim.Native.Nat.{ℕ, zero, suc, _+_, _-_, _*_, _/_, _≤_, _<_, min}
 use native.Mathlib.Nat.{sub-zero, zero-sub}
 use native.Mathlib.Decide.{decLe}
 use native.Mathlib.Omega.{arith}
@@ -10,23 +11,23 @@ use lib.IntN.{ℤ, pos}
 use lib.ListN.{length, take, drop, replicate, take-append-drop}
 use lib.Seq.{paste, length-take-le}
 use Rattle.standard.specs.Told.{told}
-use Rattle.standard.specs.Bits.{between}
+use Rattle.standard.specs.Bits.{bits, between}
+use Rattle.standard.specs.Codes.{wordOf}
 use Rattle.standard.specs.Numbers.{Numbers, halted, got, prepend, quadTable, regionsOf, tableAt, pairs, quads, thenRest, numbersBy, quiet, numbersOf, padded}
 use Rattle.standard.specs.BitsLaws.{between-nil}
-use Rattle.standard.specs.QuietLaws.{Zeros, zero-pairs, quiet-rest}
+use Rattle.standard.specs.QuietLaws.{zero-pairs, quiet-rest}
 use Rattle.standard.specs.NumbersLaws.{numbers-none, numbers-some}
 use Rattle.standard.specs.declared.SampleRate.{SampleRate}
 use Rattle.standard.specs.declared.SlotRecord.{SlotRecord}
 use Rattle.standard.specs.declared.Refusal.{Refusal}
+use Rattle.standard.specs.declared.Refusal.the-variants.{PairOverrun}
 use Rattle.standard.specs.declared.Regions.{Regions}
-use Rattle.codes.specs.Walk.{lookedUp}
 use Rattle.huffman.specs.Slot.{countOf, numbersAfter}
-use Rattle.huffman.specs.Runs.{pairsSaid, PairsRead, Filled, Says, NumbersRead}
-use Rattle.huffman.specs.declared.runs.Ended.{Ended}
-use Rattle.huffman.specs.declared.runs.Ended.the-variants.{At, Halted}
+use Rattle.huffman.specs.Runs.{Filled, Says, NumbersRead}
+use Rattle.huffman.specs.Run.{PairsRun}
 use Rattle.huffman.specs.declared.HuffmanAnswer.{HuffmanAnswer}
 use Rattle.huffman.specs.declared.HuffmanAnswer.the-variants.{Counted, Uncounted}
-use Rattle.huffman.proofs.Filling.{drop-on}
+use Rattle.huffman.proofs.Running.{drop-on, run-whole, run-short}
 
 -- ---- pairs, then quads
 says-on : (q q' : Numbers) (from : ℕ) (out₀ out₁ out : List ℤ) → q ≡ q' → drop from out₁ ≡ drop from out₀
@@ -45,80 +46,84 @@ take-replicate zero n z h = refl
 take-replicate (suc k) zero z h = absurd (omega arith)
 take-replicate (suc k) (suc n) z h = ap (λ (l : List ℤ). z ∷ l) (take-replicate k n z (omega arith))
 
--- what the whole is after its pairs
-module _ (trees : List ℕ) (rate : SampleRate) (r : SlotRecord) (s : List ℕ) (at e : ℕ) (out₀ : List ℤ) (g : Regions) (n : ℕ) (out₁ : List ℤ) (x : Ended)
-    (own : g ≡ regionsOf rate r) (hn : n ≡ r .«big_values»)
-    (p : PairsRead (pairs (lookedUp trees) (tableAt (g .first) (g .second) (r .«table_select»)) 0 n (between s at e)) n s e out₀ out₁ x) where
-  after-pairs : numbersBy (lookedUp trees) r (regionsOf rate r) (between s at e)
-      ≡ thenRest (lookedUp trees) (quadTable (r .«count1table_select»)) n (pairsSaid x (take (2 * n) out₁) s e)
+-- n pairs of a slot were read, up to a place, with no look at where the bits end
+module _ (rate : SampleRate) (r : SlotRecord) (s : List ℕ) (at e : ℕ) (within : at ≤ e) (out₀ : List ℤ) (g : Regions) (n : ℕ) (out₁ : List ℤ) (place : ℕ)
+    (own : g ≡ regionsOf rate r) (hn : n ≡ r .«big_values») (p : PairsRun (tableAt (g .first) (g .second) (r .«table_select»)) s at n out₀ out₁ place) where
+  abbrev tables : ℕ → ℕ
+  tables = tableAt (g .first) (g .second) (r .«table_select»)
+
+  abbrev quadsBy : Numbers → Numbers
+  quadsBy q = thenRest wordOf (quadTable (r .«count1table_select»)) n q
+
+  -- what the whole is after its pairs
+  after-pairs : numbersBy wordOf r (regionsOf rate r) (between s at e) ≡ quadsBy (pairs wordOf tables 0 n (between s at e))
   unfolding numbersBy
   after-pairs =
-      ap (λ (y : Regions). numbersBy (lookedUp trees) r y (between s at e)) (sym own)
-      ∙ ap (λ (m : ℕ). thenRest (lookedUp trees) (quadTable (r .«count1table_select»)) m
-      (pairs (lookedUp trees) (tableAt (g .first) (g .second) (r .«table_select»)) 0 m (between s at e))) (sym hn)
-      ∙ ap (thenRest (lookedUp trees) (quadTable (r .«count1table_select»)) n) (p .same)
+      ap (λ (y : Regions). numbersBy wordOf r y (between s at e)) (sym own)
+      ∙ ap (λ (m : ℕ). thenRest wordOf (quadTable (r .«count1table_select»)) m (pairs wordOf tables 0 m (between s at e))) (sym hn)
 
-  -- a pair is refused, and with it the slot, with bits and without
-  pub pairs-halted : (why : Refusal) → x ≡ Halted why → NumbersRead (numbersOf (lookedUp trees) rate r (between s at e)) 0 out₀ out₁ (Uncounted why)
-  unfolding Says thenRest pairsSaid quiet
-  pairs-halted why d =
-      let same = after-pairs ∙ ap (λ (y : Ended). thenRest (lookedUp trees) (quadTable (r .«count1table_select»)) n (pairsSaid y (take (2 * n) out₁) s e)) d in
+  -- one of them does not end within the bits, and with it the slot is refused, with bits and without
+  pub pairs-over : e < place → NumbersRead (numbersOf wordOf rate r (between s at e)) 0 out₀ out₁ (Uncounted PairOverrun)
+  unfolding Says thenRest quiet between
+  pairs-over h =
+      let same = after-pairs ∙ ap quadsBy (run-short tables s (p .run) (e - at) (omega arith)) in
       record {
         long = p .long;
         says = elim (decLe e at) [
-          | yes h ↦ numbers-none (lookedUp trees) rate r s at e h ∙ ap quiet same
-          | no h ↦ numbers-some (lookedUp trees) rate r s at e (omega arith) ∙ same
+          | yes l ↦ numbers-none wordOf rate r s at e l ∙ ap quiet same
+          | no l ↦ numbers-some wordOf rate r s at e (omega arith) ∙ same
         ];
       }
 
-  -- all are read of no bits: they are zeros, and nothing was coded
-  module _ (place : ℕ) (d : x ≡ At place) (none : e ≤ at) (few : n ≤ 288) (zeros : out₀ ≡ replicate 576 (pos 0)) where
-    read-none : Zeros n (got (take (2 * n) out₁) (between s place e))
-    unfolding pairsSaid
-    read-none =
-        subst (Zeros n) (p .same ∙ ap (λ (y : Ended). pairsSaid y (take (2 * n) out₁) s e) d)
-        (zero-pairs (lookedUp trees) (tableAt (g .first) (g .second) (r .«table_select»)) 0 n (between s at e) (between-nil s at e none))
+  module _ (fit : place ≤ e) where
+    read-whole : pairs wordOf tables 0 n (between s at e) ≡ got (take (2 * n) out₁) (between s place e)
+    unfolding between
+    read-whole =
+        let k : at + (e - at) - place ≡ e - place = omega arith in
+        run-whole tables s (p .run) (e - at) (omega arith) ∙ ap (λ (m : ℕ). got (take (2 * n) out₁) (bits s place m)) k
 
-    same-zeros : out₁ ≡ out₀
-    same-zeros =
-        sym (take-append-drop (2 * n) out₁)
-        ∙ (λ j. (read-none .0 ∙ sym (take-replicate (2 * n) 576 (pos 0) (omega arith)) ∙ ap (take (2 * n)) (sym zeros)) j ++ p .kept j)
-        ∙ take-append-drop (2 * n) out₀
+    -- all are read of no bits: they are zeros, and nothing was coded
+    module _ (none : e ≤ at) (few : n ≤ 288) (zeros : out₀ ≡ replicate 576 (pos 0)) where
+      read-none : (take (2 * n) out₁ ≡ replicate (2 * n) (pos 0)) × (between s place e ≡ [])
+      read-none = zero-pairs tables 0 n (ap (pairs wordOf tables 0 n) (sym (between-nil s at e none)) ∙ read-whole)
 
-    pub none-read : NumbersRead (numbersOf (lookedUp trees) rate r (between s at e)) 0 out₀ out₁ (Counted 0)
-    unfolding Says pairsSaid
-    none-read = record {
-      long = p .long;
-      says = record {
-        low = omega arith;
-        high = omega arith;
-        gave = record {
-          rest = [];
-          same =
-              numbers-none (lookedUp trees) rate r s at e none
-              ∙ ap quiet
-              (after-pairs
-              ∙ ap (λ (y : Ended). thenRest (lookedUp trees) (quadTable (r .«count1table_select»)) n (pairsSaid y (take (2 * n) out₁) s e)) d)
-              ∙ quiet-rest (lookedUp trees) (quadTable (r .«count1table_select»)) n (take (2 * n) out₁) (between s place e) (read-none .1);
+      same-zeros : out₁ ≡ out₀
+      same-zeros =
+          sym (take-append-drop (2 * n) out₁)
+          ∙ (λ j. (read-none .0 ∙ sym (take-replicate (2 * n) 576 (pos 0) (omega arith)) ∙ ap (take (2 * n)) (sym zeros)) j ++ p .kept j)
+          ∙ take-append-drop (2 * n) out₀
+
+      pub none-read : NumbersRead (numbersOf wordOf rate r (between s at e)) 0 out₀ out₁ (Counted 0)
+      unfolding Says
+      none-read = record {
+        long = p .long;
+        says = record {
+          low = omega arith;
+          high = omega arith;
+          gave = record {
+            rest = [];
+            same =
+                numbers-none wordOf rate r s at e none ∙ ap quiet (after-pairs ∙ ap quadsBy read-whole)
+                ∙ quiet-rest wordOf (quadTable (r .«count1table_select»)) n (take (2 * n) out₁) (between s place e) (read-none .1);
+          };
+          kept = same-zeros;
         };
-        kept = same-zeros;
-      };
-    }
+      }
 
-  -- then the quads
-  pub quads-read : (place t : ℕ) (out : List ℤ) (a : HuffmanAnswer) → at < e → x ≡ At place → t ≡ quadTable (r .«count1table_select»)
-      → NumbersRead (prepend (take (2 * n) out₁) (quads (lookedUp trees) t ((576 - 2 * n) / 4) (between s place e))) (2 * n) out₁ out a
-      → NumbersRead (numbersOf (lookedUp trees) rate r (between s at e)) 0 out₀ out a
-  unfolding thenRest pairsSaid
-  quads-read place t out a h d ht f = record {
-    long = f .long;
-    says =
-        says-on (numbersOf (lookedUp trees) rate r (between s at e))
-        (prepend (take (2 * n) out₁) (quads (lookedUp trees) t ((576 - 2 * n) / 4) (between s place e))) (2 * n) out₀ out₁ out
-        (numbers-some (lookedUp trees) rate r s at e h ∙ after-pairs
-        ∙ (λ j. thenRest (lookedUp trees) (sym ht j) n (pairsSaid (d j) (take (2 * n) out₁) s e)))
-        (p .kept) a (f .says);
-  }
+    -- then the quads
+    pub quads-read : at < e → (c : Bool) (out : List ℤ) (a : HuffmanAnswer) → c ≡ r .«count1table_select»
+        → NumbersRead (prepend (take (2 * n) out₁) (quads wordOf (quadTable c) ((576 - 2 * n) / 4) (between s place e))) (2 * n) out₁ out a
+        → NumbersRead (numbersOf wordOf rate r (between s at e)) 0 out₀ out a
+    unfolding thenRest
+    quads-read h c out a ec f = record {
+      long = f .long;
+      says =
+          says-on (numbersOf wordOf rate r (between s at e))
+          (prepend (take (2 * n) out₁) (quads wordOf (quadTable c) ((576 - 2 * n) / 4) (between s place e))) (2 * n) out₀ out₁ out
+          (numbers-some wordOf rate r s at e h ∙ after-pairs
+          ∙ (λ j. thenRest wordOf (quadTable (sym ec j)) n (read-whole j)))
+          (p .kept) a (f .says);
+    }
 
 -- ---- the whole, over zeros
 drop-replicate : (k n : ℕ) (z : ℤ) → drop k (replicate n z) ≡ replicate (n - k) z
@@ -152,3 +157,16 @@ module _ (q : Numbers) (out : List ℤ) (a : HuffmanAnswer) (n : ℕ) (f : Numbe
     sym (ap countOf (filled .gave .same) ∙ ap told count-is),
     g ∙ sym (ap (λ (x : Numbers). numbersAfter x d) (filled .gave .same) ∙ ap (λ (l : List ℤ). paste d 0 l 576) padded-is),
   )
+
+-- ---- bits from one place up to another that stands before it are none
+from-least : (s : List ℕ) (at e : ℕ) → between s (min at e) e ≡ between s at e
+from-least s at e =
+    elim (decLe e at) [
+      | yes h ↦ between-nil s (min at e) e (omega arith) ∙ sym (between-nil s at e h)
+      | no h ↦ let p : min at e ≡ at = omega arith in ap (λ (k : ℕ). between s k e) p
+    ]
+
+pub least-read : (rate : SampleRate) (r : SlotRecord) (s : List ℕ) (at e k : ℕ) (out₀ out : List ℤ) (a : HuffmanAnswer) → k ≡ min at e
+    → NumbersRead (numbersOf wordOf rate r (between s k e)) 0 out₀ out a → NumbersRead (numbersOf wordOf rate r (between s at e)) 0 out₀ out a
+least-read rate r s at e k out₀ out a h f =
+    subst (λ (b : List Bool). NumbersRead (numbersOf wordOf rate r b) 0 out₀ out a) (ap (λ (n : ℕ). between s n e) h ∙ from-least s at e) f

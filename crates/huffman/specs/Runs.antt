@@ -1,4 +1,4 @@
--- What the runs of pairs and quads leave in the numbers that are lent to them. q is what the run comes to by the definition, out₀ and out are
+-- What is left in the numbers that are lent for a slot. q is what is read by the definition, out₀ and out are
 -- the numbers before and after it.
 use mathlib.Core.Path.{_≡_}
 use mathlib.Core.Bool.{Bool}
@@ -7,22 +7,9 @@ use Prim.Native.Nat.{ℕ, _*_, _≤_}
 use lib.IntN.{ℤ}
 use lib.ListN.{length, take, drop}
 use Rattle.standard.specs.Sizes.{perSlot}
-use Rattle.standard.specs.Bits.{between}
 use Rattle.standard.specs.Numbers.{Numbers, halted, got}
 use Rattle.huffman.specs.declared.HuffmanAnswer.{HuffmanAnswer}
 use Rattle.huffman.specs.declared.HuffmanAnswer.the-variants.{Counted, Uncounted}
-use Rattle.huffman.specs.declared.runs.Ended.{Ended}
-use Rattle.huffman.specs.declared.runs.Ended.the-variants.{At, Halted}
-
--- n pairs were read, and the bits left start at a place; or they were not
-unfoldable pub pairsSaid : Ended → List ℤ → List ℕ → ℕ → Numbers
-pairsSaid (Halted r) vs s e = halted r
-pairsSaid (At p) vs s e = got vs (between s p e)
-
-pub record PairsRead (q : Numbers) (n : ℕ) (s : List ℕ) (e : ℕ) (out₀ out : List ℤ) (r : Ended) : Type 0 where
-  pub long : length out ≡ perSlot
-  pub same : q ≡ pairsSaid r (take (2 * n) out) s e
-  pub kept : drop (2 * n) out ≡ drop (2 * n) out₀
 
 -- q was read up to the numbers vs, whichever bits are left
 pub record Gave (q : Numbers) (vs : List ℤ) : Type 0 where

@@ -1,111 +1,82 @@
-// Pairs and quads one after the other, into lent numbers: whole ones only, so that nothing of a dropped quad can be left.
-use crate::HuffmanAnswer;
-use pairs::pair;
-use pairs::quad;
-use standard::Pair;
-use standard::Quad;
-use standard::Refusal;
+// Pairs one after the other, into lent numbers.
+use crate::escape_width;
+use crate::find::known;
+use crate::find::root;
+use crate::pairs::find_pair;
+use crate::words::ahead;
 use standard::SLOT_NUMBERS;
 ghost use mathlib.Core.Path.{_≡_};
-ghost use Prim.Native.Nat.{_-_, _/_, _≤_};
-ghost use lib.ListN.{length, take};
+ghost use Prim.Native.Nat.{_+_, _/_, _≤_, _<_, _^_, min};
+ghost use lib.ListN.{length};
 ghost use Rattle.standard.specs.Sizes.{perSlot, mostBigValues};
-ghost use Rattle.standard.specs.Bits.{between};
-ghost use Rattle.standard.specs.Numbers.{tableAt, pairs, prepend, quads};
-ghost use Rattle.codes.specs.Walk.{lookedUp};
-ghost use Rattle.huffman.specs.Runs.{PairsRead, NumbersRead};
+ghost use Rattle.standard.specs.Numbers.{tableAt};
+ghost use Rattle.huffman.specs.Cells.{cells};
+ghost use Rattle.huffman.specs.Run.{RunOn, PairsRun};
 
-// How the pairs of a slot ended: all are read, and the bits after them start at a place; or one refused the slot.
-pub(crate) enum Ended {
-    At { place: usize },
-    Halted(Refusal),
-}
-
-// The table of the pair at a position.
-fn table_at(first: u16, second: u16, tables: [u8; 3], position: usize) -> usize
-    ensures { λ r. ⌜ r ≡ tableAt first second tables position ⌝ }
+// The pairs of a table from one number of pair up to another, from the bit place `start` on; answers the place after them. Where the bits end is not looked
+// at, since a pair that runs over leaves every later place past the end.
+fn read_run(
+    t: &[u16],
+    table: usize,
+    s: &[u8],
+    start: usize,
+    from: usize,
+    to: usize,
+    out: &mut [i32; SLOT_NUMBERS],
+) -> usize
+    requires { ⌜ (now t ≡ cells) × (from ≤ to) × (to ≤ mostBigValues) × (length (now out) ≡ perSlot) × (start < 2 ^ 60) ⌝ }
+    ensures { λ r. ⌜ RunOn table (now (s .entry)) start from to (now (out .entry)) (now (out .exit)) r ⌝ }
 {
-    if position < first as usize {
-        return tables[0] as usize;
+    let link = root(t, known(table));
+    let width = escape_width(table) as usize;
+    let mut at = start;
+    let mut k = from;
+    while k < to {
+        let p = find_pair(t, link, width, ahead(s, at));
+        let x = p.x;
+        let y = p.y;
+        out[2 * k] = x;
+        out[2 * k + 1] = y;
+        at += p.used;
+        k += 1;
     }
-    if position < second as usize {
-        return tables[1] as usize;
-    }
-    tables[2] as usize
+    at
 }
 
-// The first n pairs of a slot from the place `start` on, tables changing at `first` and `second`.
+// How many of n pairs start before a position.
+fn pairs_before(position: u16, n: usize) -> usize
+    ensures { λ r. ⌜ r ≡ min ((position + 1) / 2) n ⌝ }
+{
+    let pairs = (position as usize + 1) / 2;
+    if pairs < n {
+        return pairs;
+    }
+    n
+}
+
+// The first n pairs of a slot, tables changing at `first` and `second`.
 pub(crate) fn read_pairs(
-    trees: &[u16],
+    t: &[u16],
     first: u16,
     second: u16,
     tables: [u8; 3],
     n: usize,
     s: &[u8],
     start: usize,
-    end: usize,
     out: &mut [i32; SLOT_NUMBERS],
-) -> Ended
-    requires { ⌜ (n ≤ mostBigValues) × (length (now out) ≡ perSlot) ⌝ }
-    ensures { λ r. ⌜ PairsRead
-        (pairs (lookedUp (now (trees .entry))) (tableAt first second tables) 0 n (between (now (s .entry)) start end))
-        n (now (s .entry)) end (now (out .entry)) (now (out .exit)) r ⌝ }
+) -> usize
+    requires { ⌜ (now t ≡ cells) × (first ≤ second) × (n ≤ mostBigValues) × (length (now out) ≡ perSlot) × (start < 2 ^ 32) ⌝ }
+    ensures { λ r. ⌜ PairsRun (tableAt first second tables) (now (s .entry)) start n (now (out .entry)) (now (out .exit)) r ⌝ }
 {
+    let ends = [pairs_before(first, n), pairs_before(second, n), n];
     let mut at = start;
-    let mut i: usize = 0;
-    let mut k: usize = 0;
-    while k < n {
-        let table = table_at(first, second, tables, i);
-        match pair(trees, table, s, at, end) {
-            Pair::NoPair(why) => {
-                return Ended::Halted(why);
-            }
-            Pair::Two { x, y, used } => {
-                out[i] = x;
-                out[i + 1] = y;
-                at += used;
-            }
-        }
-        i += 2;
-        k += 1;
+    let mut done: usize = 0;
+    let mut region: usize = 0;
+    while region < 3 {
+        let to = ends[region];
+        at = read_run(t, tables[region] as usize, s, at, done, to, out);
+        done = to;
+        region += 1;
     }
-    Ended::At { place: at }
-}
-
-// Quads of a table from the place `start` on, numbers from the position `from` on: as long as four fit and a quad ends.
-pub(crate) fn read_quads(
-    trees: &[u16],
-    table: usize,
-    s: &[u8],
-    start: usize,
-    end: usize,
-    from: usize,
-    out: &mut [i32; SLOT_NUMBERS],
-) -> HuffmanAnswer
-    requires { ⌜ (from ≤ perSlot) × (length (now out) ≡ perSlot) ⌝ }
-    ensures { λ r. ⌜ NumbersRead
-        (prepend (take from (now (out .entry))) (quads (lookedUp (now (trees .entry))) table ((perSlot - from) / 4) (between (now (s .entry)) start end)))
-        from (now (out .entry)) (now (out .exit)) r ⌝ }
-{
-    let mut at = start;
-    let mut i = from;
-    while i <= 572 && at < end {
-        match quad(trees, table, s, at, end) {
-            Quad::NoQuad => {
-                return HuffmanAnswer::Uncounted(Refusal::NoCodeword);
-            }
-            Quad::Dropped => {
-                return HuffmanAnswer::Counted { count: i as u16 };
-            }
-            Quad::Four { v, w, x, y, used } => {
-                out[i] = v;
-                out[i + 1] = w;
-                out[i + 2] = x;
-                out[i + 3] = y;
-                at += used;
-            }
-        }
-        i += 4;
-    }
-    HuffmanAnswer::Counted { count: i as u16 }
+    at
 }

@@ -14,7 +14,7 @@ use Rattle.standard.specs.BitsLaws.{one-le, drop-bits, take-bits, field-bits}
 use Rattle.standard.specs.Header.{isHeader, isMpeg1, isTwo, isSlow, headerSize, sideBytes}
 use Rattle.standard.specs.Crc.{crcFits}
 use Rattle.standard.specs.Record.{recordWidth}
-use Rattle.standard.specs.SideInfo.{beginWidth, sharesAt, shareCount, slotCount, recordsOf, thenSide, neededFrom, absentFrom, sideIn, sideFrom, sideOf}
+use Rattle.standard.specs.SideInfo.{beginWidth, sharesAt, shareCount, slotCount, recordsOf, thenSide, neededFrom, absentFrom, sideIn, sideFrom, sideUnder, sideOf}
 use Rattle.standard.specs.declared.FrameHeader.{FrameHeader}
 use Rattle.standard.specs.declared.SlotRecord.{SlotRecord}
 use Rattle.standard.specs.declared.Refusal.{Refusal}
@@ -164,8 +164,11 @@ module _ (h : FrameHeader) (s : List ℕ) {b : Bool} (e : b ≡ isHeader h) wher
   unfolding sideOf
   side-made-up f = passed _ (sym e ∙ f)
 
-  pub side-under : {from : ℕ} {mpeg1 two slow : Bool} → b ≡ true → from ≡ headerSize h → mpeg1 ≡ isMpeg1 (h .version) → two ≡ isTwo (h .channels)
-      → slow ≡ isSlow (h .rate)
-      → sideOf h s ≡ sideFrom (h .crc) mpeg1 two slow from s
+  pub side-known : b ≡ true → sideOf h s ≡ sideUnder h s
   unfolding sideOf
-  side-under f p q r t = picked _ (sym e ∙ f) ∙ (λ j. sideFrom (h .crc) (sym q j) (sym r j) (sym t j) (sym p j) s)
+  side-known f = picked _ (sym e ∙ f)
+
+pub by-parts : (h : FrameHeader) (s : List ℕ) {from : ℕ} {mpeg1 two slow : Bool} → from ≡ headerSize h → mpeg1 ≡ isMpeg1 (h .version) → two ≡ isTwo (h .channels)
+    → slow ≡ isSlow (h .rate)
+    → sideUnder h s ≡ sideFrom (h .crc) mpeg1 two slow from s
+by-parts h s p q r t j = sideFrom (h .crc) (sym q j) (sym r j) (sym t j) (sym p j) s

@@ -10,20 +10,17 @@ use standard::FrameHeader;
 use standard::Refusal;
 use standard::SideInfoAnswer;
 ghost use Rattle.standard.specs.Refusals.{Answers};
-ghost use Rattle.standard.specs.SideInfo.{noSide, sideOf};
+ghost use Rattle.standard.specs.SideInfo.{noSide, sideUnder, sideOf};
 
 mod record;
 pub mod side;
 mod slot_records;
 mod words;
 
-// The side information of a frame under its header, from the frame's bytes, the header's first.
-pub fn read_side_info(h: FrameHeader, frame: &[u8]) -> SideInfoAnswer
-    ensures { λ r. ⌜ Answers noSide (r .verdict) (r .info) (sideOf h (now (frame .entry))) ⌝ }
+// The side information under a header, whatever it has: whether bytes read to it is not asked.
+pub fn side_under(h: FrameHeader, frame: &[u8]) -> SideInfoAnswer
+    ensures { λ r. ⌜ Answers noSide (r .verdict) (r .info) (sideUnder h (now (frame .entry))) ⌝ }
 {
-    if !is_header(h) {
-        return no_side(Refusal::MadeUpRecord);
-    }
     let version = h.version;
     let channels = h.channels;
     let rate = h.rate;
@@ -32,4 +29,14 @@ pub fn read_side_info(h: FrameHeader, frame: &[u8]) -> SideInfoAnswer
     let mpeg1 = is_mpeg1(version);
     let two = is_two(channels);
     read_after(frame, crc, from, mpeg1, two, is_slow(rate))
+}
+
+// The side information of a frame under its header, from the frame's bytes, the header's first.
+pub fn read_side_info(h: FrameHeader, frame: &[u8]) -> SideInfoAnswer
+    ensures { λ r. ⌜ Answers noSide (r .verdict) (r .info) (sideOf h (now (frame .entry))) ⌝ }
+{
+    if !is_header(h) {
+        return no_side(Refusal::MadeUpRecord);
+    }
+    side_under(h, frame)
 }

@@ -5,13 +5,14 @@ use crate::words::word;
 use bits::bit;
 use crc::FIRST_COVERED;
 use crc::fits;
+use record_check::layout::Layout;
 use record_check::layout::layout_of;
 use standard::Refusal;
 use standard::SideInfo;
 use standard::SideInfoAnswer;
 use standard::Verdict;
 ghost use mathlib.Core.Path.{_≡_};
-ghost use mathlib.Core.Bool.{false, not, _&&_};
+ghost use mathlib.Core.Bool.{Bool, false, not, _&&_};
 ghost use mathlib.Core.List.{_++_};
 ghost use Prim.Native.Nat.{_-_, _*_, _≤_, _<_};
 ghost use lib.ListN.{replicate};
@@ -20,6 +21,7 @@ ghost use Rattle.standard.specs.Refusals.{Answers};
 ghost use Rattle.standard.specs.Bits.{bits};
 ghost use Rattle.standard.specs.Crc.{crcFits};
 ghost use Rattle.standard.specs.Header.{sideBytes};
+ghost use Rattle.record_check.specs.Layouts.{LaidOut};
 ghost use Rattle.standard.specs.SideInfo.{noSide, neededFrom, absentFrom, sideIn, sideFrom};
 
 // A refusal beside blank side information.
@@ -56,11 +58,11 @@ pub(crate) fn read_shares(s: &[u8], at: usize, n: usize) -> [bool; 8]
 }
 
 // The side information whose bits start at a place.
-pub(crate) fn read_bits(s: &[u8], at: usize, mpeg1: bool, two: bool, slow: bool) -> SideInfoAnswer
-    requires { ⌜ at ≤ 64 ⌝ }
-    ensures { λ r. ⌜ Answers noSide (r .verdict) (r .info) (sideIn mpeg1 two slow (bits (now (s .entry)) at (8 * sideBytes mpeg1 two))) ⌝ }
+pub(crate) fn read_bits(s: &[u8], at: usize, l: Layout, mpeg1: bool, slow: bool) -> SideInfoAnswer
+    requires { ⌜ (at ≤ 64) × ((two : Bool) × LaidOut mpeg1 two l) ⌝ }
+    ensures { λ r. ⌜ ((two : Bool) → LaidOut mpeg1 two l
+        → Answers noSide (r .verdict) (r .info) (sideIn mpeg1 two slow (bits (now (s .entry)) at (8 * sideBytes mpeg1 two)))) ⌝ }
 {
-    let l = layout_of(mpeg1, two);
     let x = read_records(s, at + l.prefix + l.shares, l.slots, mpeg1, slow);
     let v = x.verdict;
     match v {
@@ -131,5 +133,5 @@ pub(crate) fn read_after(
     if fails(frame, crc, end) {
         return no_side(Refusal::WrongCrc);
     }
-    read_bits(frame, 8 * from, mpeg1, two, slow)
+    read_bits(frame, 8 * from, l, mpeg1, slow)
 }

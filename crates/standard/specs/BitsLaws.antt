@@ -259,34 +259,6 @@ byte-value s i h = upper-part s i h 8 (omega arith) ∙ all-of-it (getD s i 0)
     all-of-it : (x : ℕ) → x / 1 ≡ x
     all-of-it x = omega arith
 
--- the 24 bits of three bytes
-pub three-bytes : (s : List ℕ) (i : ℕ) → getD s i 0 < 256 → getD s (i + 1) 0 < 256 → getD s (i + 2) 0 < 256
-    → fieldAt s (8 * i) 24 ≡ getD s i 0 * 65536 + getD s (i + 1) 0 * 256 + getD s (i + 2) 0
-unfolding fieldAt
-three-bytes s i h0 h1 h2 =
-    let p : 8 * i + 8 ≡ 8 * (i + 1) = omega arith in
-    let q : 8 * i + 16 ≡ 8 * (i + 2) = omega arith in
-    ap value (bits-add s 16 (8 * i) 8 ∙ ap (λ (l : List Bool). l ++ bits s (8 * i + 16) 8) (bits-add s 8 (8 * i) 8))
-    ∙ value-two (bits s (8 * i) 8 ++ bits s (8 * i + 8) 8) (bits s (8 * i + 16) 8) 8 (length-bits s (8 * i + 16) 8)
-    ∙ (λ j. value-two (bits s (8 * i) 8) (bits s (8 * i + 8) 8) 8 (length-bits s (8 * i + 8) 8) j * 2 ^ 8 + value (bits s (q j) 8))
-    ∙ sum (byte-value s i h0) (ap (λ (m : ℕ). value (bits s m 8)) p ∙ byte-value s (i + 1) h1) (byte-value s (i + 2) h2)
-  where
-    sum : {a b c x y z : ℕ} → a ≡ x → b ≡ y → c ≡ z → (a * 2 ^ 8 + b) * 2 ^ 8 + c ≡ x * 65536 + y * 256 + z
-    sum p q r = omega arith
-
--- and a field of m bits cut out of them
-pub field-in-three : (s : List ℕ) (at m : ℕ) → m ≤ 16
-    → getD s (at / 8) 0 < 256 → getD s (at / 8 + 1) 0 < 256 → getD s (at / 8 + 2) 0 < 256
-    → fieldAt s at m ≡ (getD s (at / 8) 0 * 65536 + getD s (at / 8 + 1) 0 * 256 + getD s (at / 8 + 2) 0) / 2 ^ (24 - at % 8 - m) % 2 ^ m
-unfolding fieldAt
-field-in-three s at m h h0 h1 h2 =
-    let e : 8 * (at / 8) + at % 8 ≡ at = omega arith in
-    let l : length (bits s (8 * (at / 8)) 24) ≡ at % 8 + m + (24 - at % 8 - m) = omega (arith, length-bits s (8 * (at / 8)) 24) in
-    ap (λ (i : ℕ). fieldAt s i m) (sym e)
-    ∙ sym (field-bits s (8 * (at / 8)) 24 (at % 8) m (omega arith))
-    ∙ field-value (bits s (8 * (at / 8)) 24) (at % 8) m (24 - at % 8 - m) l
-    ∙ ap (λ (v : ℕ). v / 2 ^ (24 - at % 8 - m) % 2 ^ m) (three-bytes s (at / 8) h0 h1 h2)
-
 -- ---- a field of a list of bytes: in two parts, within a longer one, and of a bit
 pub fieldAt-add : (s : List ℕ) (at m n : ℕ) → fieldAt s at (m + n) ≡ fieldAt s at m * 2 ^ n + fieldAt s (at + m) n
 unfolding fieldAt
@@ -296,6 +268,32 @@ pub fieldAt-cut : (s : List ℕ) (at k n m : ℕ) → fieldAt s (at + k) n ≡ f
 unfolding fieldAt
 fieldAt-cut s at k n m =
     sym (field-bits s at (k + n + m) k n (omega arith)) ∙ field-value (bits s at (k + n + m)) k n m (length-bits s at (k + n + m))
+
+-- bytes in turn: two, and four
+two-bytes : (s : List ℕ) (i : ℕ) → getD s i 0 < 256 → getD s (i + 1) 0 < 256 → fieldAt s (8 * i) 16 ≡ getD s i 0 * 256 + getD s (i + 1) 0
+unfolding fieldAt
+two-bytes s i h0 h1 =
+    let p : 8 * i + 8 ≡ 8 * (i + 1) = omega arith in
+    fieldAt-add s (8 * i) 8 8 ∙ (λ j. byte-value s i h0 j * 2 ^ 8 + (ap (λ (m : ℕ). fieldAt s m 8) p ∙ byte-value s (i + 1) h1) j)
+
+pub four-bytes : (s : List ℕ) (i b0 b1 b2 b3 : ℕ) → (b0 ≡ getD s i 0) × (b0 < 256) → (b1 ≡ getD s (i + 1) 0) × (b1 < 256)
+    → (b2 ≡ getD s (i + 2) 0) × (b2 < 256) → (b3 ≡ getD s (i + 3) 0) × (b3 < 256)
+    → b0 * 16777216 + b1 * 65536 + b2 * 256 + b3 ≡ fieldAt s (8 * i) 32
+four-bytes s i b0 b1 b2 b3 p0 p1 p2 p3 =
+    let p : 8 * i + 16 ≡ 8 * (i + 2) = omega arith in
+    let n : i + 2 + 1 ≡ i + 3 = omega arith in
+    let last : getD s (i + 2 + 1) 0 ≡ b3 = ap (λ (m : ℕ). getD s m 0) n ∙ sym (p3 .0) in
+    let high = two-bytes s i (omega (arith, p0 .0, p0 .1)) (omega (arith, p1 .0, p1 .1)) in
+    let low = ap (λ (m : ℕ). fieldAt s m 16) p ∙ two-bytes s (i + 2) (omega (arith, p2 .0, p2 .1)) (omega (arith, last, p3 .1)) in
+    sym (fieldAt-add s (8 * i) 16 16 ∙ omega (arith, high, low, last, p0 .0, p1 .0, p2 .0))
+
+-- a field lies within the four bytes from its first on
+pub field-in-four : (s : List ℕ) (at m : ℕ) → m ≤ 24 → fieldAt s at m ≡ fieldAt s (8 * (at / 8)) 32 / 2 ^ (32 - at % 8 - m) % 2 ^ m
+field-in-four s at m h =
+    let e : 8 * (at / 8) + at % 8 ≡ at = omega arith in
+    let n : at % 8 + m + (32 - at % 8 - m) ≡ 32 = omega arith in
+    ap (λ (i : ℕ). fieldAt s i m) (sym e) ∙ fieldAt-cut s (8 * (at / 8)) (at % 8) m (32 - at % 8 - m)
+    ∙ ap (λ (w : ℕ). fieldAt s (8 * (at / 8)) w / 2 ^ (32 - at % 8 - m) % 2 ^ m) n
 
 pub fieldAt-one : (s : List ℕ) (at : ℕ) → fieldAt s at 1 ≡ one (bitAt s at)
 unfolding fieldAt value valueFrom bits

@@ -9,20 +9,18 @@ use lib.Dec.{ltb}
 use lib.IntN.{ℤ}
 use lib.ListN.{length, take, drop, length-append}
 use lib.Seq.{take-at}
-use Rattle.standard.specs.Told.{Told, refused, told, toldOr}
+use Rattle.standard.specs.Told.{Told, refused, told}
 use Rattle.standard.specs.ToldLaws.{picked, passed, either-left, either-right, neither}
 use Rattle.standard.specs.RefusalsLaws.{unlike}
 use Rattle.standard.specs.Header.{headerOf, headerSize, sideSize, mainSize, frameLength, noHeader, isHeader}
 use Rattle.standard.specs.SideInfo.{sideOf, noSide, isSide}
-use Rattle.standard.specs.Slots.{Outcome, slotsOf, slotsTold, numbersFrom, readSlots, SlotsRead}
-use Rattle.standard.specs.SlotsLaws.{read-call}
+use Rattle.standard.specs.Slots.{Outcome, slotsOf, slotsTold, numbersFrom}
 use Rattle.standard.specs.Reservoir.{Turn, short, reached, turnOf, unfit, reservoirAfter, bytesAfter, turnVerdict, turnKept, Turned}
 use Rattle.standard.specs.Frame.{Step, noStep, shortStep, fullStep, withTurn, withSide, withHeader, frameOf, frameCall, FrameRead}
 use Rattle.standard.specs.declared.FrameHeader.{FrameHeader}
 use Rattle.standard.specs.declared.SideInfo.{SideInfo}
 use Rattle.standard.specs.declared.Reservoir.{Reservoir}
 use Rattle.standard.specs.declared.ReservoirAnswer.{ReservoirAnswer}
-use Rattle.standard.specs.declared.SlotsAnswer.{SlotsAnswer}
 use Rattle.standard.specs.declared.FrameAnswer.{FrameAnswer}
 use Rattle.standard.specs.declared.Verdict.the-variants.{Accepted, Refused}
 use Rattle.standard.specs.declared.Refusal.{Refusal}
@@ -116,27 +114,26 @@ module _ {lent left : List ℕ} {old : Reservoir} {a : ReservoirAnswer} where
     }
 
     -- the slots are read from the bytes kept
-    pub step-full : (t : Turn) {q : SlotsAnswer} → p ≡ withTurn h i t → Turned lent old (told t) a left → a .verdict ≡ Accepted
-        → 2304 ≤ length d → isHeader h ≡ true → isSide h i ≡ true → SlotsRead d (readSlots h i (take (a .reservoir .length) left) (length d)) q nums
-        → (r .verdict ≡ Accepted) × (r .header ≡ h) × (r .info ≡ i) × (r .length ≡ frameLength h) × (r .slots ≡ q .slots) × (r .reservoir ≡ a .reservoir)
+    pub step-full : (t : Turn) → p ≡ withTurn h i t → Turned lent old (told t) a left → a .verdict ≡ Accepted
+        → (r .slots ≡ slotsTold (slotsOf h i (take (a .reservoir .length) left))) × (nums ≡ numbersFrom 0 (slotsOf h i (take (a .reservoir .length) left)) d)
+        → (r .verdict ≡ Accepted) × (r .header ≡ h) × (r .info ≡ i) × (r .length ≡ frameLength h) × (r .reservoir ≡ a .reservoir)
         → FrameRead lent old d p r left nums
-    unfolding withTurn fullStep turnVerdict turnKept reservoirAfter bytesAfter toldOr
-    step-full (short bs) e u v l x y z w = unlike (sym (u .verdict) ∙ v)
-    step-full (reached bs) e u v l x y z w =
+    unfolding withTurn fullStep turnVerdict turnKept reservoirAfter bytesAfter
+    step-full (short bs) e u v z w = unlike (sym (u .verdict) ∙ v)
+    step-full (reached bs) e u v z w =
         let n : a .reservoir .length ≡ length bs = ap (λ (c : Reservoir). c .length) (u .reservoir) in
         let kept : take (a .reservoir .length) left ≡ bs = (λ j. take (n j) (u .bytes j)) ∙ take-at bs (drop (length bs) lent) (length bs) refl in
-        let said : readSlots h i (take (a .reservoir .length) left) (length d) ≡ told (slotsOf h i bs) =
-        ap (λ (c : List ℕ). readSlots h i c (length d)) kept ∙ read-call h i bs (length d) l x y in
+        let said : slotsOf h i (take (a .reservoir .length) left) ≡ slotsOf h i bs = ap (slotsOf h i) kept in
         record {
           verdict = (w .0) ∙ sym (ap (λ (x : Step). x .verdict) e);
           header = w .1 ∙ sym (ap (λ (x : Step). x .header) e);
           info = w .2 ∙ sym (ap (λ (x : Step). x .info) e);
           length-is = w .3 ∙ sym (ap (λ (x : Step). x .length) e);
-          slots = (w .4) ∙ z .slots ∙ ap (λ (c : Told (List Outcome)). slotsTold (toldOr [] c)) said ∙ sym (ap (λ (x : Step). slotsTold (x .slots)) e);
-          reservoir = w .5 ∙ u .reservoir ∙ sym (ap (λ (x : Step). reservoirAfter old (x .kept)) e);
+          slots = z .0 ∙ ap slotsTold said ∙ sym (ap (λ (x : Step). slotsTold (x .slots)) e);
+          reservoir = w .4 ∙ u .reservoir ∙ sym (ap (λ (x : Step). reservoirAfter old (x .kept)) e);
           bytes = u .bytes ∙ sym (ap (λ (x : Step). bytesAfter lent (x .kept)) e);
           numbers-are =
-              z .numbers ∙ ap (λ (c : Told (List Outcome)). numbersFrom 0 (toldOr [] c) d) said ∙ sym (ap (λ (x : Step). numbersFrom 0 (x .slots) d) e);
+              z .1 ∙ ap (λ (os : List Outcome). numbersFrom 0 os d) said ∙ sym (ap (λ (x : Step). numbersFrom 0 (x .slots) d) e);
         }
 
 -- ---- one answer and one state

@@ -23,6 +23,7 @@ pub mod Worked
 pub mod ToldLaws
 pub mod BitsLaws
 pub mod CodesLaws
+pub mod ValuesLaws
 pub mod CrcLaws
 pub mod BandsLaws
 pub mod LengthsLaws

@@ -1,5 +1,5 @@
 -- A slot without bits: what is read of it is 0, whatever the reader of codewords, for any other number has a sign bit.
-use mathlib.Core.Path.{_≡_, refl, sym, ap, subst, _∙_}
+use mathlib.Core.Path.{_≡_, refl, sym, ap, _∙_}
 use mathlib.Core.List.{List, [], _∷_, _++_, map}
 use mathlib.Core.Bool.{Bool, true, false, _&&_, _||_}
 use Prim.Native.Nat.{ℕ, zero, suc, _-_, _*_, _/_, _%_}
@@ -8,10 +8,9 @@ use borrow.Author.Tests.{eqb-true, le-ltb}
 use lib.Dec.{eqb}
 use lib.IntN.{ℤ, pos}
 use lib.ListN.{length, drop, replicate, drop-of-length-le}
-use lib.Seq.{drop-nil}
 use Rattle.standard.specs.Sizes.{perSlot}
 use Rattle.standard.specs.Told.{pick}
-use Rattle.standard.specs.ToldLaws.{never, both-of, passed}
+use Rattle.standard.specs.ToldLaws.{never, clash, both-of, passed}
 use Rattle.standard.specs.RowsLaws.{every, every-at}
 use Rattle.standard.specs.Codes.{Entry, anyBits, hasCodewords, lowBits, pair, quad, starts, first, begun, decode, silent, table1, table2, table3, table5, table6, table7, table8, table9, table10, table11, table12, table13, table15, table16, table24, tableA, tableB, codes, published, wordOf, escapeWidth}
 use Rattle.standard.specs.Numbers.{Reader, magnitudeOf, signed, further, thenSign, numberIn, twoLast, twoFirst, twoOf, pairAfter, pairWord, pairOf}
@@ -28,98 +27,10 @@ use Rattle.standard.specs.declared.SlotRecord.{SlotRecord}
 use Rattle.standard.specs.declared.Refusal.the-variants.{PairOverrun, LostShare}
 use Rattle.standard.specs.declared.Codeword.{Codeword}
 use Rattle.standard.specs.declared.Codeword.the-variants.{Coded, Cut, Alien}
-use Rattle.standard.specs.declared.Magnitude.{Magnitude}
-use Rattle.standard.specs.declared.Magnitude.the-variants.{Sized, Unsized}
-use Rattle.standard.specs.declared.Number.{Number}
-use Rattle.standard.specs.declared.Number.the-variants.{Whole, Broken}
 use Rattle.standard.specs.declared.Pair.{Pair}
 use Rattle.standard.specs.declared.Pair.the-variants.{Two, NoPair}
 
-abbrev ZeroNumber : Number → Type 0
-ZeroNumber Broken = Unit {0}
-ZeroNumber (Whole z u) = z ≡ pos 0
-
-abbrev ZeroPair : Pair → Type 0
-ZeroPair (NoPair r) = Unit {0}
-ZeroPair (Two x y u) = (x ≡ pos 0) × (y ≡ pos 0)
-
--- n pairs of zeros, and no bits left
-abbrev pub Zeros : ℕ → Numbers → Type 0
-Zeros n (halted r) = Unit {0}
-Zeros n (got vs b) = (vs ≡ replicate (2 * n) (pos 0)) × (b ≡ [])
-
-none-left : (u : ℕ) (b : List Bool) → b ≡ [] → drop u b ≡ []
-none-left u b e = ap (drop u) e ∙ drop-nil u
-
-zero-further : (u : ℕ) (n : Number) → ZeroNumber n → ZeroNumber (further u n)
-unfolding further
-zero-further u Broken z = tt
-zero-further u (Whole x k) z = z
-
-zero-signed : (v : ℕ) (b : List Bool) → b ≡ [] → ZeroNumber (signed v b)
-unfolding signed
-zero-signed zero b e = refl
-zero-signed (suc v) b e = subst (λ (x : List Bool). ZeroNumber (signed (suc v) x)) (sym e) tt
-
-zero-sign : (b : List Bool) (m : Magnitude) → b ≡ [] → ZeroNumber (thenSign b m)
-unfolding thenSign
-zero-sign b Unsized e = tt
-zero-sign b (Sized v u) e = zero-further u (signed v (drop u b)) (zero-signed v (drop u b) (none-left u b e))
-
-zero-number : (w v : ℕ) (b : List Bool) → b ≡ [] → ZeroNumber (numberIn w v b)
-unfolding numberIn
-zero-number w v b e = zero-sign b (magnitudeOf w v b) e
-
-zero-last : (x : ℤ) (n : ℕ) (y : Number) → x ≡ pos 0 → ZeroNumber y → ZeroPair (twoLast x n y)
-unfolding twoLast
-zero-last x n Broken e z = tt
-zero-last x n (Whole y k) e z = (e, z)
-
-zero-first : (w y : ℕ) (b : List Bool) (x : Number) → b ≡ [] → ZeroNumber x → ZeroPair (twoFirst w y b x)
-unfolding twoFirst
-zero-first w y b Broken e z = tt
-zero-first w y b (Whole x k) e z = zero-last x k (numberIn w y (drop k b)) z (zero-number w y (drop k b) (none-left k b e))
-
-zero-two : (w x y : ℕ) (b : List Bool) → b ≡ [] → ZeroPair (twoOf w x y b)
-unfolding twoOf
-zero-two w x y b e = zero-first w y b (numberIn w x b) e (zero-number w x b e)
-
-zero-after : (n : ℕ) (p : Pair) → ZeroPair p → ZeroPair (pairAfter n p)
-unfolding pairAfter
-zero-after n (NoPair r) z = tt
-zero-after n (Two x y k) z = z
-
-zero-word : (w : ℕ) (b : List Bool) (c : Codeword) → b ≡ [] → ZeroPair (pairWord w b c)
-unfolding pairWord
-zero-word w b Cut e = tt
-zero-word w b Alien e = tt
-zero-word w b (Coded v n) e = zero-after n (twoOf w (v / 16) (v % 16) (drop n b)) (zero-two w (v / 16) (v % 16) (drop n b) (none-left n b e))
-
-zero-pair : (word : Reader) (t : ℕ) (b : List Bool) → b ≡ [] → ZeroPair (pairOf word t b)
-unfolding pairOf
-zero-pair word t b e = zero-word (escapeWidth t) b (word t b) e
-
-zero-prepend : (n : ℕ) (x y : ℤ) (q : Numbers) → x ≡ pos 0 → y ≡ pos 0 → Zeros n q → Zeros (suc n) (prepend (x ∷ y ∷ []) q)
-unfolding prepend
-zero-prepend n x y (halted r) e f z = tt
-zero-prepend n x y (got vs b) e f z =
-    let p : 2 * suc n ≡ suc (suc (2 * n)) = omega arith in
-    ((λ j. e j ∷ f j ∷ z .0 j) ∙ ap (λ (k : ℕ). replicate k (pos 0)) (sym p), z .1)
-
-zero-then : (n : ℕ) (p : Pair) (rest : ℕ → Numbers) → ZeroPair p → ((u : ℕ) → Zeros n (rest u)) → Zeros (suc n) (thenPairs p rest)
-unfolding thenPairs
-zero-then n (NoPair r) rest z f = tt
-zero-then n (Two x y u) rest z f = zero-prepend n x y (rest u) (z .0) (z .1) (f u)
-
--- pairs that are read from no bits are zeros
-pub zero-pairs : (word : Reader) (table : ℕ → ℕ) (k n : ℕ) (b : List Bool) → b ≡ [] → Zeros n (pairs word table k n b)
-unfolding pairs
-zero-pairs word table k zero b e = (refl, e)
-zero-pairs word table k (suc n) b e =
-    zero-then n (pairOf word (table (2 * k)) b) (λ (u : ℕ). pairs word table (suc k) n (drop u b)) (zero-pair word (table (2 * k)) b e)
-    (λ u. zero-pairs word table (suc k) n (drop u b) (none-left u b e))
-
--- and after them nothing was coded
+-- after pairs that are read from no bits nothing was coded
 quiet-quads : (word : Reader) (t m : ℕ) (vs : List ℤ) → quiet (prepend vs (quads word t m [])) ≡ got [] []
 unfolding quiet prepend quads
 quiet-quads word t zero vs = refl
@@ -199,6 +110,23 @@ pairs-none table k (suc n) =
     ap (λ (p : Pair). thenPairs p (λ (u : ℕ). pairs wordOf table (suc k) n (drop u []))) (pair-none (table (2 * k)))
     ∙ then-none (hasCodewords (table (2 * k))) (anyCoded table (suc k) n) n (λ (u : ℕ). pairs wordOf table (suc k) n (drop u []))
     (pairs-none table (suc k) n)
+
+-- those that are read are zeros, and no bits are left
+valuesIn : Numbers → List ℤ
+valuesIn (halted r) = []
+valuesIn (got vs b) = vs
+
+bitsIn : Numbers → List Bool
+bitsIn (halted r) = []
+bitsIn (got vs b) = b
+
+zeros-in : (c : Bool) (n : ℕ) {vs : List ℤ} {b : List Bool} → quietly c n ≡ got vs b → (vs ≡ replicate (2 * n) (pos 0)) × (b ≡ [])
+unfolding quietly valuesIn bitsIn
+zeros-in true n e = clash cc
+zeros-in false n e = (sym (ap valuesIn e), sym (ap bitsIn e))
+
+pub zero-pairs : (table : ℕ → ℕ) (k n : ℕ) {vs : List ℤ} {b : List Bool} → pairs wordOf table k n [] ≡ got vs b → (vs ≡ replicate (2 * n) (pos 0)) × (b ≡ [])
+zero-pairs table k n e = zeros-in (anyCoded table k n) n (sym (pairs-none table k n) ∙ e)
 
 -- a slot without bits is refused where one of its pairs falls in a table with codewords; else it is read, and nothing was coded
 pub read-quietly : (rate : SampleRate) (r : SlotRecord)

@@ -83,9 +83,13 @@ sideFrom crc mpeg1 two slow from s =
     (pick (crc && not (crcFits s (from + sideBytes mpeg1 two))) (refused WrongCrc)
     (sideIn mpeg1 two slow (bits s (8 * from) (8 * sideBytes mpeg1 two))))
 
+-- under a header, whatever it has
+abbrev pub sideUnder : FrameHeader → List ℕ → Told SideInfo
+sideUnder h s = sideFrom (h .crc) (isMpeg1 (h .version)) (isTwo (h .channels)) (isSlow (h .rate)) (headerSize h) s
+
+-- and under one that bytes read to
 unfoldable pub sideOf : FrameHeader → List ℕ → Told SideInfo
-sideOf h s =
-    pick (isHeader h) (sideFrom (h .crc) (isMpeg1 (h .version)) (isTwo (h .channels)) (isSlow (h .rate)) (headerSize h) s) (refused MadeUpRecord)
+sideOf h s = pick (isHeader h) (sideUnder h s) (refused MadeUpRecord)
 
 -- what a refusal's answer has in the place of side information
 unfoldable pub noSide : SideInfo

@@ -4,6 +4,8 @@ use Rattle.bits.proofs.bit.Reads as bit
 use Rattle.bits.proofs.bit.Kinds as bit-kinds
 use Rattle.bits.proofs.byte.Reads as byte
 use Rattle.bits.proofs.byte.Kinds as byte-kinds
+use Rattle.bits.proofs.eight.Reads as eight
+use Rattle.bits.proofs.eight.Kinds as eight-kinds
 use Rattle.bits.proofs.field.Reads as field
 use Rattle.bits.proofs.field.Kinds as field-kinds
 use Rattle.bits.proofs.one.Reads as one
@@ -16,6 +18,9 @@ bit-unique κs a x y s t p q = alike p q
 
 pub byte-unique : OneAnswer byte-kinds.ps byte-kinds.r byte.Post
 byte-unique κs a x y s t p q = alike (p .0) (q .0)
+
+pub eight-unique : OneAnswer eight-kinds.ps eight-kinds.r eight.Post
+eight-unique κs a x y s t p q = alike p q
 
 pub field-unique : OneAnswer field-kinds.ps field-kinds.r field.Post
 field-unique κs a x y s t p q = alike p q

@@ -8,7 +8,7 @@ use Rattle.frame.proofs.refused.Tie as tie
 use Rattle.frame.proofs.refused.Reads as reads
 use Rattle.frame.proofs.refused.Lts as lts
 use Rattle.header.proofs.no_header.Reads as no-header-reads
-use Rattle.main_data.proofs.answers.lacking_slots.Reads as lacking-slots-reads
+use Rattle.frame.proofs.answers.lacking_slots.Reads as lacking-slots-reads
 use Rattle.side_info.proofs.side.no_side.Reads as no-side-reads
 
 no-header-requires : tie.Need-no-header-requires

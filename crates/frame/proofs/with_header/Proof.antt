@@ -1,28 +1,20 @@
 -- `frame::with_header` meets its contract: the side information is the definition's, and the main data is what follows it.
 -- Assumes nothing.
-use mathlib.Core.Path.{refl}
+use mathlib.Core.Path.{refl, _∙_}
 use native.Mathlib.Omega.{arith}
 use denote.Ref.{now}
 use Rattle.standard.specs.RefusalsLaws.{answered-told, answered-refused}
 use Rattle.standard.specs.HeaderLaws.{frame-length-le, frame-length-any}
+use Rattle.standard.specs.HeaderBytes.{header-known}
 use Rattle.standard.specs.SideBytes.{side-known}
 use Rattle.standard.specs.FrameLaws.{step-refused, frame-no-side, frame-absent}
-use Rattle.frame.proofs.Stages.{side-header, parts, main-length, whole-frame}
+use Rattle.frame.proofs.Stages.{side-read, parts, main-length, whole-frame}
 use borrow.Author.Needs.{needs}
 use Rattle.frame.proofs.with_header.Statement.{statement}
 use Rattle.frame.proofs.with_header.Tie as tie
-use Rattle.frame.proofs.with_header.Reads as reads
-use Rattle.frame.proofs.with_header.Lts as lts
-use Rattle.frame.proofs.refused.Reads as refused-reads
-use Rattle.frame.proofs.with_main.Reads as with-main-reads
-use Rattle.derived.proofs.frame_length.Reads as frame-length-reads
-use Rattle.derived.proofs.header_size.Reads as header-size-reads
-use Rattle.derived.proofs.main_size.Reads as main-size-reads
-use Rattle.derived.proofs.side_size.Reads as side-size-reads
-use Rattle.side_info.proofs.read_side_info.Reads as read-side-info-reads
 
-read-side-info-requires : tie.Need-read-side-info-requires
-read-side-info-requires c κs = search needs
+side-under-requires : tie.Need-side-under-requires
+side-under-requires c κs = search needs
 
 enum-known-verdict : tie.Need-enum-known-verdict
 enum-known-verdict c = search needs
@@ -35,7 +27,7 @@ returns c =
     let o = c .before .before .before .before .before .before .before .before in
     step-refused
     (frame-no-side _ _ (o .pre .3)
-    (answered-refused (c .before .before .before .before .before .read-side-info .ensures) (c .before .before .verdict .given .1)))
+    (side-read (o .args .h) (now (o .args .frame)) (λ i. omega (arith, c .before .before .before .before .before .before .before .shared-slice-known .given i)) (o .pre .3) ∙ answered-refused (c .before .before .before .before .before .side-under .ensures) (c .before .before .verdict .given .1)))
     (c .refused .ensures) refl refl
 
 enum-told : tie.Need-enum-told
@@ -57,7 +49,7 @@ returns-2 c =
     let o = c .before .before .before .before .before .before .before .before .before in
     step-refused
     (frame-absent _ _ (o .pre .3)
-    (answered-told (c .before .before .before .before .before .before .read-side-info .ensures) (c .before .before .before .enum-told .given .1))
+    (side-read (o .args .h) (now (o .args .frame)) (λ i. omega (arith, c .before .before .before .before .before .before .before .before .shared-slice-known .given i)) (o .pre .3) ∙ answered-told (c .before .before .before .before .before .before .side-under .ensures) (c .before .before .before .enum-told .given .1))
     (omega (arith, c .before .if1 .taken, c .before .before .frame-length .ensures))) (c .refused2 .ensures) refl refl
 
 header-size-requires : tie.Need-header-size-requires
@@ -68,10 +60,9 @@ side-size-requires c κs = search needs
 
 add-from : tie.Need-add-from
 add-from c =
-    let h = c .before .before .before .before .before .before .before .before .before .before .args .h in
-    let k = side-header _ _ _
-    (answered-told (c .before .before .before .before .before .before .before .read-side-info .ensures)
-    (c .before .before .before .before .enum-told .given .1)) in
+    let o = c .before .before .before .before .before .before .before .before .before .before in
+    let h = o .args .h in
+    let k = header-known (now (o .args .frame)) (o .args .h) (λ i. omega (arith, c .before .before .before .before .before .before .before .before .before .shared-slice-known .given i)) (o .pre .3) in
     record { fits = omega (arith, c .before .header-size .ensures, c .side-size .ensures, parts h k, frame-length-le h k) }
 
 main-size-requires : tie.Need-main-size-requires
@@ -79,10 +70,9 @@ main-size-requires c κs = search needs
 
 add-to : tie.Need-add-to
 add-to c =
-    let h = c .before .before .before .before .before .before .before .before .before .before .before .args .h in
-    let k = side-header _ _ _
-    (answered-told (c .before .before .before .before .before .before .before .before .read-side-info .ensures)
-    (c .before .before .before .before .before .enum-told .given .1)) in
+    let o = c .before .before .before .before .before .before .before .before .before .before .before in
+    let h = o .args .h in
+    let k = header-known (now (o .args .frame)) (o .args .h) (λ i. omega (arith, c .before .before .before .before .before .before .before .before .before .before .shared-slice-known .given i)) (o .pre .3) in
     record {
       fits = omega
           (arith, c .before .before .header-size .ensures, c .before .side-size .ensures, c .main-size .ensures, parts h k, frame-length-le h k);
@@ -96,10 +86,9 @@ part-with-main-start c = search needs
 
 part-with-main-end : tie.Need-part-with-main-end
 part-with-main-end c =
-    let h = c .before .before .before .before .before .before .before .before .before .before .before .args .h in
-    let k = side-header _ _ _
-    (answered-told (c .before .before .before .before .before .before .before .before .read-side-info .ensures)
-    (c .before .before .before .before .before .enum-told .given .1)) in
+    let o = c .before .before .before .before .before .before .before .before .before .before .before in
+    let h = o .args .h in
+    let k = header-known (now (o .args .frame)) (o .args .h) (λ i. omega (arith, c .before .before .before .before .before .before .before .before .before .before .shared-slice-known .given i)) (o .pre .3) in
     omega (
       arith,
       c .before .before .before .if1 .left,
@@ -114,9 +103,8 @@ with-main-requires : tie.Need-with-main-requires
 with-main-requires c κs =
     let o = c .before .before .before .before .before .before .before .before .before .before .before .before .before .before in
     let h = o .args .h in
-    let t = answered-told (c .before .before .before .before .before .before .before .before .before .before .before .read-side-info .ensures)
-    (c .before .before .before .before .before .before .before .before .enum-told .given .1) in
-    let k = side-header _ _ _ t in
+    let t = (side-read (o .args .h) (now (o .args .frame)) (λ i. omega (arith, c .before .before .before .before .before .before .before .before .before .before .before .before .before .shared-slice-known .given i)) (o .pre .3) ∙ answered-told (c .before .before .before .before .before .before .before .before .before .before .before .side-under .ensures) (c .before .before .before .before .before .before .before .before .enum-told .given .1)) in
+    let k = header-known (now (o .args .frame)) (o .args .h) (λ i. omega (arith, c .before .before .before .before .before .before .before .before .before .before .before .before .before .shared-slice-known .given i)) (o .pre .3) in
     let hs = c .before .before .before .before .before .header-size .ensures in
     let ss = c .before .before .before .before .side-size .ensures in
     let ms = c .before .before .before .main-size .ensures in (
@@ -146,9 +134,7 @@ returns-3 c =
     let ss = c .before .before .before .before .before .before .before .before .side-size .ensures in
     let ms = c .before .before .before .before .before .before .before .main-size .ensures in
     whole-frame (now (o .args .frame)) (o .args .h) _ (o .pre .3)
-    (answered-told
-    (c .before .before .before .before .before .before .before .before .before .before .before .before .before .before .before .read-side-info .ensures)
-    (c .before .before .before .before .before .before .before .before .before .before .before .before .enum-told .given .1))
+    (side-read (o .args .h) (now (o .args .frame)) (λ i. omega (arith, c .before .before .before .before .before .before .before .before .before .before .before .before .before .before .before .before .before .shared-slice-known .given i)) (o .pre .3) ∙ answered-told (c .before .before .before .before .before .before .before .before .before .before .before .before .before .before .before .side-under .ensures) (c .before .before .before .before .before .before .before .before .before .before .before .before .enum-told .given .1))
     (omega (
       arith,
       c .before .before .before .before .before .before .before .before .before .before .if1 .left,
@@ -160,7 +146,7 @@ pub with-header-spec : {M : Type 1} → statement M
 with-header-spec =
     tie.close
     (tie.spec
-    read-side-info-requires
+    side-under-requires
     enum-known-verdict
     refused-requires
     returns

@@ -12,8 +12,8 @@ use Rattle.frame.proofs.with_main.Tie as tie
 use Rattle.frame.proofs.with_main.Reads as reads
 use Rattle.frame.proofs.with_main.Lts as lts
 use Rattle.derived.proofs.frame_length.Reads as frame-length-reads
-use Rattle.main_data.proofs.answers.lacking_slots.Reads as lacking-slots-reads
-use Rattle.main_data.proofs.read_slots.Reads as read-slots-reads
+use Rattle.frame.proofs.answers.lacking_slots.Reads as lacking-slots-reads
+use Rattle.frame.proofs.frame_slots.slots_from.Reads as slots-from-reads
 use Rattle.reservoir.proofs.turn.Reads as turn-reads
 
 frame-length-requires : tie.Need-frame-length-requires
@@ -42,18 +42,18 @@ returns c =
 enum-told : tie.Need-enum-told
 enum-told c = search needs
 
-slice-reshare-prefix-read-slots : tie.Need-slice-reshare-prefix-read-slots
-slice-reshare-prefix-read-slots c =
+slice-reshare-prefix-slots-from : tie.Need-slice-reshare-prefix-slots-from
+slice-reshare-prefix-slots-from c =
     let o = c .before .before .before .before .before .before .before .before .before .before in
     kept-within _
     (fits-turn (o .args .h) (o .args .i) (now (o .args .main)) (o .pre .0) (o .pre .1) (o .pre .3) (o .pre .4) (o .pre .5)
     (c .before .before .before .before .before .turn .ensures))
 
-slice-aggregate-read-slots : tie.Need-slice-aggregate-read-slots
-slice-aggregate-read-slots c = sym (length-take-le _ _ (slice-reshare-prefix-read-slots (c .before)))
+slice-aggregate-slots-from : tie.Need-slice-aggregate-slots-from
+slice-aggregate-slots-from c = sym (length-take-le _ _ (slice-reshare-prefix-slots-from (c .before)))
 
-read-slots-requires : tie.Need-read-slots-requires
-read-slots-requires c κs = search needs
+slots-from-requires : tie.Need-slots-from-requires
+slots-from-requires c κs = search needs
 
 same-length-2 : tie.Need-same-length-2
 same-length-2 c = search needs
@@ -63,12 +63,12 @@ same-length-3 c = search needs
 
 returns-2 : tie.Need-returns-2
 returns-2 c =
-    let o = c .before .before .before .before .before .before .before .before .before .before .before .before .before .before .before in
+    let o = c .before .before .before .before .before .before .before .before .before .before .before .before .before .before in
     step-full _ refl
     (fits-turn (o .args .h) (o .args .i) (now (o .args .main)) (o .pre .0) (o .pre .1) (o .pre .3) (o .pre .4) (o .pre .5)
-    (c .before .before .before .before .before .before .before .before .before .before .turn .ensures))
-    (c .before .before .before .before .before .enum-told .given .1) (o .pre .2) (o .pre .3) (o .pre .4) (c .before .before .read-slots .ensures)
-    (refl, refl, refl, c .before .before .before .before .before .before .before .before .before .before .before .before .frame-length .ensures, refl, refl)
+    (c .before .before .before .before .before .before .before .before .before .turn .ensures))
+    (c .before .before .before .before .enum-told .given .1) (c .before .slots-from .ensures)
+    (refl, refl, refl, c .before .before .before .before .before .before .before .before .before .before .before .frame-length .ensures, refl)
 
 pub with-main-spec : {M : Type 1} → statement M
 with-main-spec =
@@ -81,9 +81,9 @@ with-main-spec =
     same-length
     returns
     enum-told
-    slice-reshare-prefix-read-slots
-    slice-aggregate-read-slots
-    read-slots-requires
+    slice-reshare-prefix-slots-from
+    slice-aggregate-slots-from
+    slots-from-requires
     same-length-2
     same-length-3
     returns-2)

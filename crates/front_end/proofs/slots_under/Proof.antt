@@ -11,7 +11,7 @@ use Rattle.front_end.proofs.slots_under.Tie as tie
 use Rattle.front_end.proofs.slots_under.Reads as reads
 use Rattle.front_end.proofs.slots_under.Lts as lts
 use Rattle.front_end.proofs.rows.tell.Reads as tell-reads
-use Rattle.main_data.proofs.read_slots.Reads as read-slots-reads
+use Rattle.frame.proofs.read_slots.Reads as read-slots-reads
 use Rattle.front_end.proofs.rows.told_of.Reads as told-of-reads
 use Rattle.side_info.proofs.read_side_info.Reads as read-side-info-reads
 

@@ -1,9 +1,12 @@
--- `huffman::decode` meets its contract: no bits, a pair that is refused, or the pairs and then the quads, by the laws of the whole.
--- Assumes nothing.
-use mathlib.Core.Path.{refl, ap, _∙_}
+-- `huffman::decode` meets its contract: a pair that runs over, no bits, or the pairs and then the quads, by the laws of the whole. Assumes nothing.
+use mathlib.Core.Path.{_≡_, refl, ap, _∙_}
+use native.Mathlib.Omega.{arith}
 use lib.IntN.{pos}
 use lib.ListN.{length, length-replicate}
-use Rattle.huffman.proofs.Whole.{none-read, pairs-halted, quads-read}
+use Rattle.standard.specs.Record.{shapeOf}
+use Rattle.standard.specs.RegionsLaws.{boundaries-rise}
+use Rattle.standard.specs.declared.Regions.{Regions}
+use Rattle.huffman.proofs.Whole.{pairs-over, none-read, quads-read}
 use borrow.Author.Needs.{needs}
 use Rattle.huffman.proofs.decode.Statement.{statement}
 use Rattle.huffman.proofs.decode.Tie as tie
@@ -16,31 +19,25 @@ cast-n c = search needs
 
 read-pairs-requires : tie.Need-read-pairs-requires
 read-pairs-requires c κs =
-    let pre = c .before .before .before .before .before .before .pre in
-    (pre .0, ap length (pre .1) ∙ length-replicate 576 (pos 0))
-
-enum-known-why : tie.Need-enum-known-why
-enum-known-why c = search needs
-
-enum-known-place : tie.Need-enum-known-place
-enum-known-place c = search needs
+    let d = c .before .before .before .before .before .before in
+    let e = c .before .before .before .regions-of .ensures in
+    let rise = boundaries-rise (shapeOf (d .args .r)) (d .args .rate) (d .args .r) .0 in (
+      d .pre .0,
+      omega (arith, ap (λ (g : Regions). g .first) e, ap (λ (g : Regions). g .second) e, rise),
+      d .pre .1,
+      ap length (d .pre .2) ∙ length-replicate 576 (pos 0),
+      omega (arith, d .pre .3, d .pre .4),
+    )
 
 returns : tie.Need-returns
 returns c =
-    let p = c .before .before .before .before in
-    let g = p .before .before .before .before in
-    let pre = g .before .before .before .pre in
-    none-read _ _ _ _ _ _ _ _ _ _ _ (g .regions-of .ensures) refl (p .read-pairs .ensures) _ (c .before .before .place .given .1) (c .if1 .taken)
-    (pre .0) (pre .1)
+    let d = c .before .before .before .before .before .before .before .before in
+    pairs-over _ _ _ _ _ (d .pre .3) _ _ _ _ _ (c .before .before .before .before .before .regions-of .ensures) refl (c .before .read-pairs .ensures) (c .if1 .taken)
 
 returns-2 : tie.Need-returns-2
 returns-2 c =
-    let p = c .before .before .before in
-    let g = p .before .before .before .before in
-    pairs-halted _ _ _ _ _ _ _ _ _ _ _ (g .regions-of .ensures) refl (p .read-pairs .ensures) _ (c .before .why .given .1)
-
-quad-table-requires : tie.Need-quad-table-requires
-quad-table-requires c κs = search needs
+    let d = c .before .before .before .before .before .before .before .before .before in
+    none-read _ _ _ _ _ (d .pre .3) _ _ _ _ _ (c .before .before .before .before .before .before .regions-of .ensures) refl (c .before .before .read-pairs .ensures) (c .before .if1 .left) (c .if2 .taken) (d .pre .1) (d .pre .2)
 
 mul-read-quads : tie.Need-mul-read-quads
 mul-read-quads c = search needs
@@ -50,24 +47,8 @@ read-quads-requires c κs = search needs
 
 returns-3 : tie.Need-returns-3
 returns-3 c =
-    let t = c .before .before in
-    let p = t .before .before .before .before .before in
-    let g = p .before .before .before .before in
-    quads-read _ _ _ _ _ _ _ _ _ _ _ (g .regions-of .ensures) refl (p .read-pairs .ensures) _ _ _ _ (t .before .if1 .left)
-    (t .before .before .before .place .given .1) (t .quad-table .ensures) (c .read-quads .ensures)
+    let d = c .before .before .before .before .before .before .before .before .before .before .before in
+    quads-read _ _ _ _ _ (d .pre .3) _ _ _ _ _ (c .before .before .before .before .before .before .before .before .regions-of .ensures) refl (c .before .before .before .before .read-pairs .ensures) (c .before .before .before .if1 .left) (c .before .before .if2 .left) _ _ _ refl (c .read-quads .ensures)
 
 pub decode-spec : {M : Type 1} → statement M
-decode-spec =
-    tie.close
-    (tie.spec
-    regions-of-requires
-    cast-n
-    read-pairs-requires
-    enum-known-why
-    enum-known-place
-    returns
-    quad-table-requires
-    mul-read-quads
-    read-quads-requires
-    returns-2
-    returns-3)
+decode-spec = tie.close (tie.spec regions-of-requires cast-n read-pairs-requires returns returns-2 mul-read-quads read-quads-requires returns-3)

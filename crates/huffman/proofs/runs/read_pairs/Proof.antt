@@ -1,99 +1,69 @@
--- `huffman::runs::read_pairs` meets its contract. The loop's invariant: the numbers stored so far, then the pairs left from the bits left, are
--- all pairs. The measure is how many pairs are left. Assumes nothing.
-use mathlib.Core.Path.{sym, _∙_}
-use Prim.Native.Nat.{_-_}
+-- `huffman::runs::read_pairs` meets its contract. The loop's invariant: the pairs of the regions so far. The measure is how many regions are to come. Assumes nothing.
+use Prim.Native.Nat.{ℕ, _+_, _-_, _*_, _≤_, _<_, _^_}
 use native.Mathlib.Omega.{arith}
-use mir.Syntax.{w32}
-use mir.Val.{SFits}
-use mir.ValLaws.{toZ-ofZ}
-use Rattle.standard.specs.Bits.{between}
-use Rattle.standard.specs.Numbers.{tableAt, pairs}
-use Rattle.codes.specs.Walk.{lookedUp}
-use Rattle.pairs.proofs.Within.{pair-within}
-use Rattle.huffman.proofs.Filling.{PairLoop, pair-begin, pair-halt, pair-turn, pair-end}
+use Rattle.huffman.proofs.Running.{ends-are, PairsLoop, pairs-begin, pairs-order, pairs-turn, pairs-end}
 use borrow.Author.Needs.{needs}
 use Rattle.huffman.proofs.runs.read_pairs.Statement.{statement}
 use Rattle.huffman.proofs.runs.read_pairs.Tie as tie
-use Rattle.huffman.proofs.runs.read_pairs.Reads as reads
-use Rattle.huffman.proofs.runs.read_pairs.Lts as lts
-use Rattle.huffman.proofs.runs.table_at.Reads as table-at-reads
-use Rattle.pairs.proofs.pair.Reads as pair-reads
 
 abbrev Inv-loop : tie.InvT-loop
-Inv-loop trees first second tables n s start end out₀ at₀ i₀ k₀ out at i k =
-    PairLoop (pairs (lookedUp trees) (tableAt first second tables) 0 n (between s start end)) trees (tableAt first second tables) n s end out₀ out at i k
+Inv-loop t first second n s start out₀ tables ends at₀ done₀ region₀ out at done region = PairsLoop first second n tables s start out₀ out at done region
 
 abbrev μ-loop : tie.MeasureT-loop
-μ-loop trees first second tables n s start end out₀ at₀ i₀ k₀ out at i k = n - k
+μ-loop t first second n s start out₀ tables ends at₀ done₀ region₀ out at done region = 3 - region
+
+pairs-before-requires : tie.Need-pairs-before-requires Inv-loop μ-loop
+pairs-before-requires c κs = search needs
+
+pairs-before-requires-2 : tie.Need-pairs-before-requires-2 Inv-loop μ-loop
+pairs-before-requires-2 c κs = search needs
 
 loop-holds : tie.Need-loop-holds Inv-loop μ-loop
-loop-holds c = pair-begin _ _ _ _ _ _ _ (omega arith) (c .before .before .pre .1)
+loop-holds c = let d = c .before .before .before .before in pairs-begin _ _ _ (d .pre .1) _ _ _ _ (d .pre .3)
 
-table-at-requires : tie.Need-table-at-requires Inv-loop μ-loop
-table-at-requires c κs = tt
+mul-to : tie.Need-mul-to Inv-loop μ-loop
+mul-to c = search needs
 
-pair-requires : tie.Need-pair-requires Inv-loop μ-loop
-pair-requires c κs = tt
+array-read-to : tie.Need-array-read-to Inv-loop μ-loop
+array-read-to c = search needs
 
-enum-known-why : tie.Need-enum-known-why Inv-loop μ-loop
-enum-known-why c = search needs
+array-read-read-run : tie.Need-array-read-read-run Inv-loop μ-loop
+array-read-read-run c = search needs
 
-returns : tie.Need-returns Inv-loop μ-loop
-returns c =
-    pair-halt _ _ _ _ _ _ _ _ _ _ _ (c .before .before .before .before .before .before .loop .inv)
-    (c .before .before .before .before .before .loop-test .taken) _ (c .before .before .before .before .table-at .ensures) _
-    (sym (c .before .why .given .1) ∙ c .before .before .before .pair .ensures)
+cast-read-run : tie.Need-cast-read-run Inv-loop μ-loop
+cast-read-run c = search needs
 
-enum-known-x : tie.Need-enum-known-x Inv-loop μ-loop
-enum-known-x c = search needs
+read-run-requires : tie.Need-read-run-requires Inv-loop μ-loop
+read-run-requires c κs =
+    let f = c .before .before .loop .inv in
+    let d = c .before .before .before .before .before .before .before in
+    let a = d .args in
+    let r = c .before .before .loop .region in
+    let h : r < 3 = omega arith in
+    let is = ends-are (a .first) (a .second) (a .n) _ _ r (c .before .before .before .before .pairs-before .ensures) (c .before .before .before .pairs-before2 .ensures) in
+    let p = pairs-order (a .first) (a .second) (a .n) (d .pre .1) f h _ is in
+    (d .pre .0, p .0, omega (arith, p .1, d .pre .2), f .long, omega (arith, f .near, p .0, p .1, d .pre .2, d .pre .4))
 
-mul-x : tie.Need-mul-x Inv-loop μ-loop
-mul-x c = omega arith
-
-element-set-from-x : tie.Need-element-set-from-x Inv-loop μ-loop
-element-set-from-x c = omega arith
-
-add-y : tie.Need-add-y Inv-loop μ-loop
-add-y c = omega arith
-
-mul-y : tie.Need-mul-y Inv-loop μ-loop
-mul-y c = omega arith
-
-element-set-from-y : tie.Need-element-set-from-y Inv-loop μ-loop
-element-set-from-y c = omega arith
-
-add-at : tie.Need-add-at Inv-loop μ-loop
-add-at c =
-    omega (
-      arith,
-      pair-within _ _ _ _ _ _
-          (sym (c .before .x .given .1) ∙ c .before .before .before .pair .ensures),
-      c .before .before .before .before .before .before .loop .inv .place,
-      c .before .before .before .before .before .before .before .before .before .fits .end,
-    )
-
-add-i : tie.Need-add-i Inv-loop μ-loop
-add-i c = omega arith
-
-add-k : tie.Need-add-k Inv-loop μ-loop
-add-k c = omega arith
+add-region : tie.Need-add-region Inv-loop μ-loop
+add-region c = search needs
 
 loop-less : tie.Need-loop-less Inv-loop μ-loop
 loop-less c = omega arith
 
 loop-again : tie.Need-loop-again Inv-loop μ-loop
 loop-again c =
-    let fx : SFits w32 (c .before .x .given .0 .0) = search needs in
-    let fy : SFits w32 (c .before .x .given .0 .1 .0) = search needs in
-    rw (toZ-ofZ w32 _ fx, toZ-ofZ w32 _ fy)
-    (pair-turn _ _ _ _ _ _ _ _ _ _ _ (c .before .before .before .before .before .before .loop .inv)
-    (c .before .before .before .before .before .loop-test .taken) _ (c .before .before .before .before .table-at .ensures) _ _ _
-    (sym (c .before .x .given .1) ∙ c .before .before .before .pair .ensures)
-    (c .before .before .before .before .before .before .before .before .before .pre .0)
-    (c .before .before .before .before .before .before .before .before .before .fits .end .fits))
+    let f = c .before .before .before .loop .inv in
+    let d = c .before .before .before .before .before .before .before .before in
+    let a = d .args in
+    let r = c .before .before .before .loop .region in
+    let h : r < 3 = omega arith in
+    let is = ends-are (a .first) (a .second) (a .n) _ _ r (c .before .before .before .before .before .pairs-before .ensures) (c .before .before .before .before .pairs-before2 .ensures) in
+    pairs-turn (a .first) (a .second) (a .n) (d .pre .1) f h _ is (c .read-run .ensures)
 
-returns-2 : tie.Need-returns-2 Inv-loop μ-loop
-returns-2 c = pair-end _ _ _ _ _ _ _ _ _ _ _ (c .before .loop .inv) (c .loop-test .left)
+returns : tie.Need-returns Inv-loop μ-loop
+returns c =
+    let d = c .before .before .before .before .before .before in
+    pairs-end (d .args .first) (d .args .second) (d .args .n) (d .pre .1) (c .before .loop .inv) (c .loop-test .left)
 
 pub read-pairs-spec : {M : Type 1} → statement M
 read-pairs-spec =
@@ -101,20 +71,15 @@ read-pairs-spec =
     (tie.spec
     Inv-loop
     μ-loop
+    pairs-before-requires
+    pairs-before-requires-2
     loop-holds
-    table-at-requires
-    pair-requires
-    enum-known-why
-    returns
-    enum-known-x
-    mul-x
-    element-set-from-x
-    add-y
-    mul-y
-    element-set-from-y
-    add-at
-    add-i
-    add-k
+    mul-to
+    array-read-to
+    array-read-read-run
+    cast-read-run
+    read-run-requires
+    add-region
     loop-less
     loop-again
-    returns-2)
+    returns)

@@ -56,7 +56,7 @@ mul-read-bits : tie.Need-mul-read-bits
 mul-read-bits c = search needs
 
 read-bits-requires : tie.Need-read-bits-requires
-read-bits-requires c κs = search needs
+read-bits-requires c κs = let l = c .before .before .before .before in (search needs, (l .before .before .args .two, l .layout-of .ensures))
 
 returns-3 : tie.Need-returns-3
 returns-3 c =
@@ -66,7 +66,7 @@ returns-3 c =
     rw
     (side-whole (a .crc) (a .mpeg1) (a .two) (a .slow) (a .from) (a .frame .now) (l .layout-of .ensures .same) (o .if1 .left)
     (c .before .before .fails .ensures) (c .before .if2 .left))
-    (c .read-bits .ensures)
+    (c .read-bits .ensures (a .two) (l .layout-of .ensures))
 
 pub read-after-spec : {M : Type 1} → statement M
 read-after-spec =

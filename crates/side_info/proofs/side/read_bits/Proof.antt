@@ -9,9 +9,6 @@ use Rattle.side_info.proofs.Sides.{side-refused, side-told}
 use Rattle.side_info.proofs.side.read_bits.Statement.{statement}
 use Rattle.side_info.proofs.side.read_bits.Tie as tie
 
-layout-of-requires : tie.Need-layout-of-requires
-layout-of-requires c κs = search needs
-
 add-read-records : tie.Need-add-read-records
 add-read-records c = search needs
 
@@ -35,8 +32,8 @@ word-requires c κs = search needs
 
 cast-begin : tie.Need-cast-begin
 cast-begin c =
-    let d = c .before .before .before .before .before .before in
-    let h : d .layout-of .result .«main_data_begin» ≤ 9 = d .layout-of .ensures .begin-few in
+    let d = c .before .before .before .before .before .before .before in
+    let h : d .args .l .«main_data_begin» ≤ 9 = d .pre .1 .1 .begin-few in
     omega (arith, nine-below _ _ h (c .word .ensures))
 
 add-read-shares : tie.Need-add-read-shares
@@ -46,15 +43,15 @@ read-shares-requires : tie.Need-read-shares-requires
 read-shares-requires c κs = search needs
 
 returns : tie.Need-returns
-returns c =
+returns c two l =
     let r = c .before .before .before .before in
     c .no-side .ensures _
-    (side-refused _ _ _ _ _ (r .before .before .before .layout-of .ensures .same) (r .read-records .ensures) (c .before .before .v .given .1))
+    (side-refused _ _ _ _ _ (l .same) (r .read-records .ensures) (c .before .before .v .given .1))
 
 returns-2 : tie.Need-returns-2
-returns-2 c =
+returns-2 c two l =
     let r = c .before .before .before .before .before .before in
-    let told-here = side-told _ _ _ _ _ (r .before .before .before .layout-of .ensures .same) (r .read-records .ensures)
+    let told-here = side-told _ _ _ _ _ (l .same) (r .read-records .ensures)
     (c .before .before .before .before .enum-told .given .1) in
     rw (c .before .before .before .before .enum-told .given .1, c .before .before .before .word .ensures, c .before .read-shares .ensures)
     (answers-told told-here)
@@ -63,7 +60,6 @@ pub read-bits-spec : {M : Type 1} → statement M
 read-bits-spec =
     tie.close
     (tie.spec
-    layout-of-requires
     add-read-records
     add-read-records-2
     read-records-requires

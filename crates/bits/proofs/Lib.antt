@@ -1,0 +1,2 @@
+-- Why eight bytes are a number of 64 bits.
+pub mod Eights

@@ -1,4 +1,0 @@
-pub mod Along
-pub mod Flat
-pub mod Walk
-pub mod WalkLaws
