@@ -99,7 +99,7 @@ typedef struct {
 
 /* What a frame answers. */
 typedef struct {
-    uint8_t refusal;        /* 0, 1, 2 to 13, or 15 */
+    uint8_t refusal;        /* 0, 1, 2 to 13, 15 or 16 */
     size_t offset;          /* as in front_end_told */
     size_t length;          /* bytes of the frame, after 0 and 13; else 0 */
     size_t main_data_begin; /* how many bytes before its own its main data begins, 0 to 511, after 0 and 13; else 0 */
@@ -146,7 +146,7 @@ static inline size_t front_end_main_data_begin(const uint8_t *frame, const front
    The main data must begin where the frame's does, front_end_main_data_begin bytes back: the last so many bytes of the reservoir as it
    was before this frame, and then the frame's own main data, as far as it is there. Where the reservoir holds fewer, do not call: from
    other bytes this reads numbers that were never recorded, and nothing can tell.
-   Answers 0, 1, 2 to 12, or 15; numbers and slots as with front_end_frame. A slot whose bits are not all there is refused by 20. */
+   Answers 0, 1, 2 to 12, 15 or 16; numbers and slots as with front_end_frame. A slot whose bits are not all there is refused by 20. */
 front_end_told front_end_slots(const uint8_t *frame, size_t frame_length, const uint8_t *main_data, size_t main_data_length, int32_t *numbers,
                                size_t numbers_length, front_end_slot *slots, size_t rows_length);
 
@@ -154,7 +154,7 @@ front_end_told front_end_slots(const uint8_t *frame, size_t frame_length, const 
 size_t front_end_emptied(void);
 
 /* The reorder of one slot's FRONT_END_SLOT numbers by the frame's own record of the slot: those of a short block, window by window
-   before it, stand frequency by frequency after it, in a mixed block those from the 37th on; any other slot's stay. Numbers past the 576 stay. Answers 0, 1, 14, 2 to 12, or 15.
+   before it, stand frequency by frequency after it, in a mixed block those from the 37th on; any other slot's stay. Numbers past the 576 stay. Answers 0, 1, 14, 2 to 12, 15 or 16.
    Not for a slot that was refused: its numbers are not of this frame. */
 front_end_told front_end_reorder(const uint8_t *frame, size_t frame_length, size_t slot, int32_t *numbers, size_t numbers_length);
 
