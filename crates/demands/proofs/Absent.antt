@@ -9,14 +9,14 @@ use lib.ListN.{length, take}
 use Rattle.standard.specs.Sizes.{per_frame, reservoir_bytes}
 use Rattle.standard.specs.Told.{told, verdict_of}
 use Rattle.standard.specs.Refusals.{told_header}
-use Rattle.standard.specs.RefusalsLaws.{why_is, unlike}
+use Rattle.standard.proofs.RefusalsLaws.{why_is, unlike}
 use Rattle.standard.specs.Written.{Bytes}
 use Rattle.standard.specs.Header.{header_of, is_header, header_size, side_size, frame_length}
 use Rattle.standard.specs.SideInfo.{needed_from}
 use Rattle.standard.specs.Frame.{Step, frame_of}
-use Rattle.standard.specs.FrameLaws.{call_fits}
+use Rattle.standard.proofs.FrameLaws.{call_fits}
 use Rattle.standard.specs.Needs.{header_needs, frame_needs, FirstAbsent}
-use Rattle.standard.specs.NeedsLaws.{header-absent, side_absent, absent-exactly, absent-within}
+use Rattle.standard.proofs.NeedsLaws.{header-absent, side_absent, absent-exactly, absent-within}
 use Rattle.standard.specs.declared.FrameHeader.{FrameHeader}
 use Rattle.standard.specs.declared.HeaderAnswer.{HeaderAnswer}
 use Rattle.standard.specs.declared.HeaderAnswer.TheVariants.{Header, NoHeader}

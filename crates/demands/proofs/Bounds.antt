@@ -14,21 +14,21 @@ use lib.ListN.{length, get_or, take, replicate}
 use Rattle.standard.specs.Sizes.{per_slot}
 use Rattle.standard.specs.Told.{told}
 use Rattle.standard.specs.ToldLaws.{both_of, both, passed, clash}
-use Rattle.standard.specs.RefusalsLaws.{apart}
+use Rattle.standard.proofs.RefusalsLaws.{apart}
 use Rattle.standard.specs.Written.{Bytes}
 use Rattle.standard.specs.RowsLaws.{every, every-at, every_append}
 use Rattle.standard.specs.Header.{is_header}
-use Rattle.standard.specs.HeaderLaws.{main_size_from, main_size_le}
-use Rattle.standard.specs.HeaderBytes.{header-known}
+use Rattle.standard.proofs.HeaderLaws.{main_size_from, main_size_le}
+use Rattle.standard.proofs.HeaderBytes.{header-known}
 use Rattle.standard.specs.SideInfo.{is_side, side_of}
-use Rattle.standard.specs.SideBytes.{side_known}
+use Rattle.standard.proofs.SideBytes.{side_known}
 use Rattle.standard.specs.Numbers.{padded}
-use Rattle.standard.specs.NumbersLaws.{small}
+use Rattle.standard.proofs.NumbersLaws.{small}
 use Rattle.standard.specs.Slots.{Outcome, stopped, holds, slot_told, start_of, records, part_of, own_of}
-use Rattle.standard.specs.SlotBounds.{Small, slot_small, start_le}
+use Rattle.standard.proofs.SlotBounds.{Small, slot_small, start_le}
 use Rattle.standard.specs.Reservoir.{reservoir_after, emptied as nothing}
 use Rattle.standard.specs.Frame.{Step, no_step, short_step, full_step, FrameRead}
-use Rattle.standard.specs.StepLaws.{Way, refused_way, short_way, full_way, short_le, full_le, Entire}
+use Rattle.standard.proofs.StepLaws.{Way, refused_way, short_way, full_way, short_le, full_le, Entire}
 use Rattle.standard.specs.declared.FrameHeader.{FrameHeader}
 use Rattle.standard.specs.declared.SideInfo.{SideInfo}
 use Rattle.standard.specs.declared.Reservoir.{Reservoir}

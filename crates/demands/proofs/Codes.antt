@@ -12,10 +12,10 @@ use lib.ListN.{length, get_or}
 use Rattle.standard.specs.ToldLaws.{never, clash}
 use Rattle.standard.specs.Refusals.{number_of}
 use Rattle.standard.specs.Codes.{entry, starts, decode, published, word_of}
-use Rattle.standard.specs.CodesLaws.{In, complete, one-reading}
+use Rattle.standard.proofs.CodesLaws.{In, complete, one-reading}
 use Rattle.standard.specs.Slots.{Outcome, stopped, holds, slot_told}
-use Rattle.standard.specs.HaltLaws.{allowed, is_other}
-use Rattle.standard.specs.SlotBounds.{never_alien}
+use Rattle.standard.proofs.HaltLaws.{allowed, is_other}
+use Rattle.standard.proofs.SlotBounds.{never_alien}
 use Rattle.standard.specs.declared.SlotAnswer.{SlotAnswer}
 use Rattle.standard.specs.declared.Codeword.TheVariants.{Coded, Alien}
 use Rattle.standard.specs.declared.Refusal.TheVariants.{MissingBits, NoCodeword}

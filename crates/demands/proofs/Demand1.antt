@@ -13,12 +13,12 @@ use lib.ListN.{length, take, drop}
 use Rattle.standard.specs.Sizes.{per_slot}
 use Rattle.standard.specs.Told.{Told, refused, told, told_or, verdict_of}
 use Rattle.standard.specs.Refusals.{Answers}
-use Rattle.standard.specs.RefusalsLaws.{apart, unlike, why_is}
+use Rattle.standard.proofs.RefusalsLaws.{apart, unlike, why_is}
 use Rattle.standard.specs.Numbers.{Numbers, halted, got}
 use Rattle.standard.specs.Slots.{Outcome, numbers_from, SlotsRead, part_of}
 use Rattle.standard.specs.Reservoir.{bytes_after as bytesKept, reservoir_after, Turn, short, reached, turn_verdict, turn_kept, Turned}
 use Rattle.standard.specs.Frame.{Step, no_step, short_step, full_step, FrameRead, main_of}
-use Rattle.standard.specs.StepLaws.{Way, refused_way, short_way, full_way}
+use Rattle.standard.proofs.StepLaws.{Way, refused_way, short_way, full_way}
 use Rattle.standard.specs.declared.Reservoir.{Reservoir}
 use Rattle.standard.specs.declared.FrameAnswer.{FrameAnswer}
 use Rattle.standard.specs.declared.ReservoirAnswer.{ReservoirAnswer}

@@ -19,8 +19,8 @@ use Rattle.standard.specs.Refusals.{number_of}
 use Rattle.standard.specs.Header.{is_header}
 use Rattle.standard.specs.SideInfo.{is_side}
 use Rattle.standard.specs.Slots.{Outcome, stopped, holds, slots_of, slot_told, lacking_slot, slots_told, numbers_from, read_slots, start_of, records, outcome_of, part_of, own_of}
-use Rattle.standard.specs.SlotsLaws.{length-slots, exactly_missing, same_outcome, read-call}
-use Rattle.standard.specs.SlotBounds.{slots-le}
+use Rattle.standard.proofs.SlotsLaws.{length-slots, exactly_missing, same_outcome, read-call}
+use Rattle.standard.proofs.SlotBounds.{slots-le}
 use Rattle.standard.specs.declared.FrameHeader.{FrameHeader}
 use Rattle.standard.specs.declared.SideInfo.{SideInfo}
 use Rattle.standard.specs.declared.SlotAnswer.{SlotAnswer}

@@ -13,28 +13,28 @@ use lib.ListN.{length, get_or, take, replicate, set, length-replicate}
 use Rattle.standard.specs.Sizes.{per_slot, per_frame, reservoir_bytes}
 use Rattle.standard.specs.Told.{pick, Told, refused, told, told_or, verdict_of}
 use Rattle.standard.specs.ToldLaws.{passed}
-use Rattle.standard.specs.RefusalsLaws.{answers_told}
+use Rattle.standard.proofs.RefusalsLaws.{answers_told}
 use Rattle.standard.specs.RowsLaws.{every, every-at}
 use Rattle.standard.specs.Written.{Bytes}
 use Rattle.standard.specs.Codes.{word_of, entry, starts, published, codes, table1, pair, low_bits}
-use Rattle.standard.specs.CodesLaws.{In, here}
+use Rattle.standard.proofs.CodesLaws.{In, here}
 use Rattle.standard.specs.Bits.{between}
 use Rattle.standard.specs.Header.{header_of, is_header, main_size, no_header}
-use Rattle.standard.specs.HeaderBytes.{header-known}
+use Rattle.standard.proofs.HeaderBytes.{header-known}
 use Rattle.standard.specs.Record.{shape_by, shape_of, absent, record_of, is_record}
-use Rattle.standard.specs.RecordBits.{record_known}
+use Rattle.standard.proofs.RecordBits.{record_known}
 use Rattle.standard.specs.SideInfo.{is_record_under, is_side}
-use Rattle.standard.specs.SideLaws.{slot_record}
+use Rattle.standard.proofs.SideLaws.{slot_record}
 use Rattle.standard.specs.Slots.{Outcome, slots_of, read_slots, slots_told, numbers_from, records}
-use Rattle.standard.specs.SlotsLaws.{read-call}
+use Rattle.standard.proofs.SlotsLaws.{read-call}
 use Rattle.standard.specs.SlotsLaws as slots_laws
-use Rattle.standard.specs.ReservoirLaws.{few_lent}
+use Rattle.standard.proofs.ReservoirLaws.{few_lent}
 use Rattle.standard.specs.ReorderLaws as reorder-laws
 use Rattle.standard.specs.Reservoir.{turn_verdict, emptied as nothing, bytes_after}
 use Rattle.standard.specs.Frame.{Step, frame_call, frame_of, no_step}
-use Rattle.standard.specs.FrameLaws.{call_fits}
-use Rattle.standard.specs.StepLaws.{way}
-use Rattle.standard.specs.Worked.{frame_f, long, reaching_back, up_from, step, slots_by}
+use Rattle.standard.proofs.FrameLaws.{call_fits}
+use Rattle.standard.proofs.StepLaws.{way}
+use Rattle.standard.proofs.Worked.{frame_f, long, reaching_back, up_from, step, slots_by}
 use Rattle.standard.specs.declared.FrameHeader.{FrameHeader}
 use Rattle.standard.specs.declared.SideInfo.{SideInfo}
 use Rattle.standard.specs.declared.SlotRecord.{SlotRecord}

@@ -15,7 +15,7 @@ use Rattle.standard.specs.Header.{header_of}
 use Rattle.standard.specs.Slots.{Outcome, slots_told, numbers_from}
 use Rattle.standard.specs.Reservoir.{bytes_after as bytesKept, reservoir_after}
 use Rattle.standard.specs.Frame.{Step, no_step, short_step, full_step, main_of}
-use Rattle.standard.specs.StepLaws.{Way, refused_way, short_way, full_way, call_way}
+use Rattle.standard.proofs.StepLaws.{Way, refused_way, short_way, full_way, call_way}
 use Rattle.standard.specs.declared.FrameHeader.{FrameHeader}
 use Rattle.standard.specs.declared.SlotRecord.{SlotRecord}
 use Rattle.front_end.specs.Calls.{per_rows, call_told, rows_after, frame_step, frame_told, FrameDone, SlotsDone, ReorderDone}
@@ -28,7 +28,7 @@ use Rattle.front_end.proofs.front_end_slots.Kinds as front-end-slots-kinds
 use Rattle.front_end.proofs.front_end_reorder.Reads as front-end-reorder
 use Rattle.front_end.proofs.front_end_reorder.Kinds as front-end-reorder-kinds
 use Rattle.demands.proofs.Call.{Call}
-use Rattle.standard.specs.RefusalsLaws.{short_only}
+use Rattle.standard.proofs.RefusalsLaws.{short_only}
 use Rattle.standard.specs.Refusals.{number_of}
 use Rattle.standard.specs.declared.Refusal.TheVariants.{UnfitMemory}
 

@@ -12,11 +12,11 @@ use Rattle.standard.specs.Sizes.{per_frame, reservoir_bytes}
 use Rattle.standard.specs.Told.{told}
 use Rattle.standard.specs.Written.{Bytes}
 use Rattle.standard.specs.Header.{header_of, header_size, side_size}
-use Rattle.standard.specs.HeaderBytes.{header-known}
+use Rattle.standard.proofs.HeaderBytes.{header-known}
 use Rattle.standard.specs.SideInfo.{side_of}
 use Rattle.standard.specs.Frame.{Step, no_step}
-use Rattle.standard.specs.FrameLaws.{call_fits}
-use Rattle.standard.specs.FlipLaws.{Flipped, flip_step, header-same}
+use Rattle.standard.proofs.FrameLaws.{call_fits}
+use Rattle.standard.proofs.FlipLaws.{Flipped, flip_step, header-same}
 use Rattle.standard.specs.declared.FrameHeader.{FrameHeader}
 use Rattle.standard.specs.declared.SideInfo.{SideInfo}
 use Rattle.standard.specs.declared.Refusal.TheVariants.{WrongCrc}

@@ -12,8 +12,8 @@ use Rattle.standard.specs.Sizes.{reservoir_bytes}
 use Rattle.standard.specs.Reservoir.{Kept, untouched, keeping, bytes_after as bytesKept, reservoir_after}
 use Rattle.standard.specs.Slots.{slots_told, numbers_from}
 use Rattle.standard.specs.Frame.{Step, frame_call, FrameRead}
-use Rattle.standard.specs.FrameLaws.{one-frame}
-use Rattle.standard.specs.StepLaws.{stated-only}
+use Rattle.standard.proofs.FrameLaws.{one-frame}
+use Rattle.standard.proofs.StepLaws.{stated-only}
 use Rattle.standard.specs.declared.Reservoir.{Reservoir}
 use Rattle.standard.specs.declared.FrameAnswer.{FrameAnswer}
 use Rattle.demands.proofs.Calls.{FrameStep, frame, bytes, reservoir, numbers, bytes_after, numbers_after}

@@ -11,13 +11,13 @@ use Prim.Native.Nat.{ℕ, ◌*◌, ◌<◌}
 use lib.ListN.{get_or}
 use Rattle.standard.specs.Told.{Told, refused, told, told_or, verdict_of}
 use Rattle.standard.specs.Refusals.{told_header, Answers}
-use Rattle.standard.specs.RefusalsLaws.{unlike, answers_told}
+use Rattle.standard.proofs.RefusalsLaws.{unlike, answers_told}
 use Rattle.standard.specs.Written.{Bytes}
 use Rattle.standard.specs.Header.{header_of, is_header, is_mpeg1, is_slow, granules, channel_count}
-use Rattle.standard.specs.HeaderBytes.{header_read, header-known}
+use Rattle.standard.proofs.HeaderBytes.{header_read, header-known}
 use Rattle.standard.specs.Record.{absent, shape_of, is_mixed}
 use Rattle.standard.specs.SideInfo.{side_of}
-use Rattle.standard.specs.SideBytes.{side_read, slot_read}
+use Rattle.standard.proofs.SideBytes.{side_read, slot_read}
 use Rattle.standard.specs.RecordBits as record-laws
 use Rattle.standard.specs.declared.FrameHeader.{FrameHeader}
 use Rattle.standard.specs.declared.SampleRate.TheVariants.{Hz8000}

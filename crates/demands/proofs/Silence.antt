@@ -19,8 +19,8 @@ use Rattle.standard.specs.SideInfo.{is_side}
 use Rattle.standard.specs.Factors.{sources_of, plan_of, plan_bits}
 use Rattle.standard.specs.Numbers.{table_of, any_coded, padded}
 use Rattle.standard.specs.Slots.{Outcome, stopped, holds, is_stopped, long_of, any_of, setting_of, shares_of, mate_of, slots_of, slot_told, start_of, records, outcome_of, part_of, own_of}
-use Rattle.standard.specs.SlotsLaws.{start_next, slot_in-read, nth_outcome}
-use Rattle.standard.specs.QuietLaws.{quiet_told}
+use Rattle.standard.proofs.SlotsLaws.{start_next, slot_in-read, nth_outcome}
+use Rattle.standard.proofs.QuietLaws.{quiet_told}
 use Rattle.standard.specs.declared.SlotAnswer.{SlotAnswer}
 use Rattle.standard.specs.declared.SlotRecord.{SlotRecord}
 use Rattle.standard.specs.declared.SlotOutcome.TheVariants.{Read, NotRead}

@@ -13,10 +13,10 @@ use Rattle.standard.specs.Sizes.{per_slot, per_frame}
 use Rattle.standard.specs.Told.{Told, told_or, refused}
 use Rattle.standard.specs.ToldLaws.{both_of, clash}
 use Rattle.standard.specs.Slots.{Outcome, stopped, holds, slot_told, lacking_slot, slots_told, numbers_from, read_slots, part_of, own_of, outcome_of}
-use Rattle.standard.specs.SlotsLaws.{told_at, lacking_at, own_numbers, past-slots, few_numbers, made-up_call, read-call}
-use Rattle.standard.specs.SlotBounds.{read-room}
+use Rattle.standard.proofs.SlotsLaws.{told_at, lacking_at, own_numbers, past-slots, few_numbers, made-up_call, read-call}
+use Rattle.standard.proofs.SlotBounds.{read-room}
 use Rattle.standard.specs.Frame.{Step, no_step, short_step, full_step, frame_call, main_of}
-use Rattle.standard.specs.StepLaws.{Way, refused_way, short_way, full_way, Entire, call_way, call_room}
+use Rattle.standard.proofs.StepLaws.{Way, refused_way, short_way, full_way, Entire, call_way, call_room}
 use Rattle.standard.specs.Header.{is_header}
 use Rattle.standard.specs.SideInfo.{is_side}
 use Rattle.standard.specs.declared.FrameHeader.{FrameHeader}

@@ -8,20 +8,20 @@ use lib.IntN.{ℤ}
 use lib.ListN.{length, take}
 use Rattle.standard.specs.Sizes.{per_slot, per_frame, reservoir_bytes}
 use Rattle.standard.specs.Told.{Told, told, told_or, verdict_of}
-use Rattle.standard.specs.RefusalsLaws.{unlike}
+use Rattle.standard.proofs.RefusalsLaws.{unlike}
 use Rattle.standard.specs.Written.{Bytes}
 use Rattle.standard.specs.Header.{is_header}
 use Rattle.standard.specs.SideInfo.{is_record_under, is_side}
 use Rattle.standard.specs.Record.{shape_of}
 use Rattle.standard.specs.Slots.{Outcome, slots_told, numbers_from, read_slots}
-use Rattle.standard.specs.SlotsLaws.{read-call}
+use Rattle.standard.proofs.SlotsLaws.{read-call}
 use Rattle.standard.specs.Reservoir.{Kept, reservoir_after, bytes_after as bytesKept}
 use Rattle.standard.specs.Frame.{Step, no_step, short_step, full_step, frame_of, frame_call}
-use Rattle.standard.specs.FrameLaws.{call_fits}
-use Rattle.standard.specs.StepLaws.{Way, refused_way, short_way, full_way, way}
+use Rattle.standard.proofs.FrameLaws.{call_fits}
+use Rattle.standard.proofs.StepLaws.{Way, refused_way, short_way, full_way, way}
 use Rattle.standard.specs.Reorder.{first_short, reordered_from}
-use Rattle.standard.specs.ReorderLaws.{in_order}
-use Rattle.standard.specs.Worked.{Row, of_frame, of_main, of_order, table, step, slots_by, ordered, IsSo, AllSo, starred}
+use Rattle.standard.proofs.ReorderLaws.{in_order}
+use Rattle.standard.proofs.Worked.{Row, of_frame, of_main, of_order, table, step, slots_by, ordered, IsSo, AllSo, starred}
 use Rattle.standard.specs.declared.SampleRate.{SampleRate}
 use Rattle.standard.specs.declared.Shape.{Shape}
 use Rattle.standard.specs.declared.Verdict.TheVariants.{Accepted}

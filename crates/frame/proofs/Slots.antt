@@ -15,9 +15,9 @@ use Rattle.standard.specs.BitsLaws.{drop_bits}
 use Rattle.standard.specs.Codes.{word_of}
 use Rattle.standard.specs.Record.{shape_of}
 use Rattle.standard.specs.Factors.{Source, plan_of, sources_of, plan_bits, factors_from, long_factors, short_factors}
-use Rattle.standard.specs.FactorsLaws.{factors_bits}
+use Rattle.standard.proofs.FactorsLaws.{factors_bits}
 use Rattle.standard.specs.Numbers.{Numbers, halted, got, numbers_of}
-use Rattle.standard.specs.RefusalsLaws.{apart, one-reason}
+use Rattle.standard.proofs.RefusalsLaws.{apart, one-reason}
 use Rattle.standard.specs.Slots.{Outcome, stopped, any_of, with_factors, slot_by, slot_of, slot_told, numbers_after}
 use Rattle.huffman.specs.Slot.{slot_numbers, count_of, numbers_after as slotLeft}
 use Rattle.huffman.specs.SlotLaws.{slot_fits}

@@ -12,13 +12,13 @@ use Rattle.standard.specs.Told.{told}
 use Rattle.standard.specs.ToldLaws.{picked}
 use Rattle.standard.specs.Written.{Bytes}
 use Rattle.standard.specs.Header.{is_header, header_of, header_size, side_size, main_size, frame_length}
-use Rattle.standard.specs.HeaderLaws.{main_and_side, reservoir-le}
-use Rattle.standard.specs.HeaderBytes.{header-known}
+use Rattle.standard.proofs.HeaderLaws.{main_and_side, reservoir-le}
+use Rattle.standard.proofs.HeaderBytes.{header-known}
 use Rattle.standard.specs.SideInfo.{side_under, side_of, is_side}
 use Rattle.standard.specs.Reservoir.{turn_of, turn_in, Turned}
-use Rattle.standard.specs.ReservoirLaws.{fitting}
+use Rattle.standard.proofs.ReservoirLaws.{fitting}
 use Rattle.standard.specs.Frame.{with_turn, frame_of, FrameRead}
-use Rattle.standard.specs.FrameLaws.{frame-turn}
+use Rattle.standard.proofs.FrameLaws.{frame-turn}
 use Rattle.standard.specs.declared.FrameHeader.{FrameHeader}
 use Rattle.standard.specs.declared.SideInfo.{SideInfo}
 use Rattle.standard.specs.declared.Reservoir.{Reservoir}

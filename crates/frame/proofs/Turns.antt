@@ -19,8 +19,8 @@ use Rattle.standard.specs.Slots.{Outcome, alone, stopped, holds, is_stopped, lon
 use Rattle.standard.specs.CopyLaws.{paste_whole}
 use Rattle.standard.specs.RowsLaws.{get_d_within}
 use Rattle.standard.specs.SideInfo.{is_side}
-use Rattle.standard.specs.SideLaws.{four_slots, slot_record, small-record}
-use Rattle.standard.specs.SlotsLaws.{length-after}
+use Rattle.standard.proofs.SideLaws.{four_slots, slot_record, small-record}
+use Rattle.standard.proofs.SlotsLaws.{length-after}
 use Rattle.standard.specs.declared.FrameHeader.{FrameHeader}
 use Rattle.standard.specs.declared.Setting.{Setting}
 use Rattle.standard.specs.declared.SideInfo.{SideInfo}

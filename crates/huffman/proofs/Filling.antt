@@ -13,7 +13,7 @@ use Rattle.standard.specs.Bits.{between}
 use Rattle.standard.specs.BitsLaws.{between-drop, between-length}
 use Rattle.standard.specs.Codes.{word_of}
 use Rattle.standard.specs.Numbers.{Numbers, got, prepend, quad_of, quads}
-use Rattle.standard.specs.NumbersLaws.{prepend-prepend, quads-end, quads-dropped, quads-four}
+use Rattle.standard.proofs.NumbersLaws.{prepend-prepend, quads-end, quads-dropped, quads-four}
 use Rattle.standard.specs.declared.Quad.TheVariants.{Four, Dropped}
 use Rattle.huffman.specs.Owns.{Owns}
 use Rattle.huffman.specs.Runs.{Says, NumbersRead}

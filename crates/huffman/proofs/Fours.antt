@@ -16,9 +16,9 @@ use Rattle.standard.specs.ToldLaws.{clash, never, both_of, either_way}
 use Rattle.standard.specs.Bits.{bit_at, bits, one}
 use Rattle.standard.specs.BitsLaws.{drop_bits, length-bits}
 use Rattle.standard.specs.Codes.{Entry, entry, low_bits, quad, codes, starts, first, begun, decode, word_of, published, table_a, table_b}
-use Rattle.standard.specs.CodesLaws.{In, here, there}
+use Rattle.standard.proofs.CodesLaws.{In, here, there}
 use Rattle.standard.specs.Numbers.{magnitude_of, sign_of, signed, further, then_sign, number_in, two_last, two_first, two_of, quad_last, quad_first, quad_word, quad_of, quad_table}
-use Rattle.standard.specs.NumbersLaws.{plain}
+use Rattle.standard.proofs.NumbersLaws.{plain}
 use Rattle.standard.specs.declared.Refusal.TheVariants.{PairOverrun}
 use Rattle.standard.specs.declared.Codeword.{Codeword}
 use Rattle.standard.specs.declared.Codeword.TheVariants.{Coded, Cut, Alien}

@@ -17,7 +17,7 @@ use Rattle.standard.specs.RowsLaws.{every, every-at}
 use Rattle.standard.specs.Bits.{bit_at, bits, one, field_at, value, value_from}
 use Rattle.standard.specs.BitsLaws.{field_at_add, field_at_one, field_at_lt}
 use Rattle.standard.specs.Codes.{Entry, decode, low_bits, pair, quad, silent, table1, table2, table3, table5, table6, table7, table8, table9, table10, table11, table12, table13, table15, table16, table24, table_a, table_b, codes}
-use Rattle.standard.specs.CodesLaws.{after, inner, lone, more, decode-bit, decode-leaf}
+use Rattle.standard.proofs.CodesLaws.{after, inner, lone, more, decode-bit, decode-leaf}
 use Rattle.standard.specs.declared.Codeword.{Codeword}
 use Rattle.standard.specs.declared.Codeword.TheVariants.{Coded, Cut, Alien}
 use Rattle.huffman.specs.Cells.{roots, silent_link, size, cells}

@@ -12,7 +12,7 @@ use lib.ListN.{length, get_or, get_or-eq_default, get_or-append}
 use lib.Dec.{eqb}
 use Rattle.standard.specs.RowsLaws.{every, every-at}
 use Rattle.standard.specs.Codes.{Entry, entry, decode, low_bits, pair, quad, silent, table1, table2, table3, table5, table6, table7, table8, table9, table10, table11, table12, table13, table15, table16, table24, table_a, table_b, codes, published, word_of}
-use Rattle.standard.specs.CodesLaws.{after, open_all, more, whole, decode-bit, decode-end, decode-leaf, published-whole}
+use Rattle.standard.proofs.CodesLaws.{after, open_all, more, whole, decode-bit, decode-end, decode-leaf, published-whole}
 use Rattle.standard.specs.declared.Codeword.{Codeword}
 use Rattle.standard.specs.declared.Codeword.TheVariants.{Coded, Cut, Alien}
 use Rattle.huffman.specs.Owns.{Owns}

@@ -15,8 +15,8 @@ use Rattle.standard.specs.Bits.{bits, between}
 use Rattle.standard.specs.Codes.{word_of}
 use Rattle.standard.specs.Numbers.{Numbers, halted, got, prepend, quad_table, regions_of, table_at, pairs, quads, then_rest, numbers_by, quiet, numbers_of, padded}
 use Rattle.standard.specs.BitsLaws.{between-nil}
-use Rattle.standard.specs.QuietLaws.{zero_pairs, quiet-rest}
-use Rattle.standard.specs.NumbersLaws.{numbers-none, numbers-some}
+use Rattle.standard.proofs.QuietLaws.{zero_pairs, quiet-rest}
+use Rattle.standard.proofs.NumbersLaws.{numbers-none, numbers-some}
 use Rattle.standard.specs.declared.SampleRate.{SampleRate}
 use Rattle.standard.specs.declared.SlotRecord.{SlotRecord}
 use Rattle.standard.specs.declared.Refusal.{Refusal}

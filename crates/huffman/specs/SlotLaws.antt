@@ -3,7 +3,7 @@
 use Rattle.std.specs.Prelude.{◌≡◌, Bool, List, ℕ, ◌≤◌, ◌<◌, ℤ, length}
 use Rattle.std.proofs.Common.{sym, ap, ◌∙◌, lt-ltb, le-ltb}
 use Rattle.standard.specs.ToldLaws.{clash, picked, passed}
-use Rattle.standard.specs.RefusalsLaws.{one-reason}
+use Rattle.standard.proofs.RefusalsLaws.{one-reason}
 use Rattle.standard.specs.Numbers.{Reader, Numbers, halted, numbers_of}
 use Rattle.standard.specs.declared.SampleRate.{SampleRate}
 use Rattle.standard.specs.declared.SlotRecord.{SlotRecord}

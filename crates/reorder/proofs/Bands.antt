@@ -9,7 +9,7 @@ use lib.Seq.{paste, length-paste, take-paste, drop-paste, drop-drop, take_all, l
 use Rattle.standard.specs.Bands.{short_start}
 use Rattle.standard.specs.Reorder.{order_of, gathered, reordered_from, band_numbers}
 use Rattle.standard.specs.CopyLaws.{Copying, copying_turn}
-use Rattle.standard.specs.ReorderLaws.{band_first, band_second, band_third, length-band_numbers, order_band, order_end, short_rises, short_tops, short_last}
+use Rattle.standard.proofs.ReorderLaws.{band_first, band_second, band_third, length-band_numbers, order_band, order_end, short_rises, short_tops, short_last}
 use Rattle.standard.specs.declared.SampleRate.{SampleRate}
 
 pub band_turn : (old d₀ d left : List ℤ) (from w j at : ℕ) → Copying (band_numbers from w old) d₀ d from (3 * j) → at ≡ from + 3 * j → j < w

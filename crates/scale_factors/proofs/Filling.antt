@@ -9,7 +9,7 @@ use native.Mathlib.Omega.{arith}
 use lib.ListN.{length, get_or, take, drop, set, replicate}
 use lib.Seq.{sets, sets-eq, drop-cons, drop-drop, drop-length}
 use Rattle.standard.specs.Factors.{bands_of}
-use Rattle.standard.specs.FactorsLaws.{bands_length}
+use Rattle.standard.proofs.FactorsLaws.{bands_length}
 use Rattle.scale_factors.specs.Flat.{cell, cells_from, flat_of, cells-length}
 
 module _ {A : Type 0} where

@@ -15,7 +15,7 @@ use Rattle.standard.specs.Record.{shape_of}
 use Rattle.standard.specs.Bits.{bits}
 use Rattle.standard.specs.Factors.{plan_by, plan_of, group, groups_from, sources_of, may_share, plan_bits, factors_from}
 use Rattle.standard.specs.Factors.{long_count, short_count, short_from, factor_count, long_factors, short_factors, bands_of}
-use Rattle.standard.specs.FactorsLaws.{few_factors, plan-bits_append, plan-length, lengths_small, shape_unshares, shape_unshared, plan-factors_length}
+use Rattle.standard.proofs.FactorsLaws.{few_factors, plan-bits_append, plan-length, lengths_small, shape_unshares, shape_unshared, plan-factors_length}
 use Rattle.standard.specs.declared.Setting.{Setting}
 use Rattle.standard.specs.declared.SlotRecord.{SlotRecord}
 use Rattle.standard.specs.declared.Plan.{Plan}

@@ -13,7 +13,7 @@ use Rattle.standard.specs.Told.{pick}
 use Rattle.standard.specs.Bits.{bits, value, field_at}
 use Rattle.standard.specs.BitsLaws.{take-bits, drop_bits}
 use Rattle.standard.specs.Factors.{group, groups_from, sources_of, Source, shared, coded, plan_bits, factors_from, width_of, factor_by}
-use Rattle.standard.specs.FactorsLaws.{source_small, group-length, group-small, groups_small, plan-bits_cons, plan-bits_append, factors_cons, factors_length, factors_append, factors_bits}
+use Rattle.standard.proofs.FactorsLaws.{source_small, group-length, group-small, groups_small, plan-bits_cons, plan-bits_append, factors_cons, factors_length, factors_append, factors_bits}
 use Rattle.scale_factors.specs.Groups.{source_in, filled, Group, Fit}
 use Rattle.standard.specs.declared.Plan.{Plan}
 

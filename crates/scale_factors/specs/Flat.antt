@@ -2,7 +2,7 @@
 use Rattle.std.specs.Prelude.{◌≡◌, refl, List, [], ◌∷◌, ℕ, zero, suc, ◌+◌, ◌*◌, ◌/◌, ◌%◌, ◌<◌, length, get_or, take, drop}
 use Rattle.std.proofs.Common.{sym, ap, ◌∙◌, zero-add, add-zero, arith, get_or-take, get_or-drop}
 use Rattle.standard.specs.Factors.{bands_of}
-use Rattle.standard.specs.FactorsLaws.{bands_at}
+use Rattle.standard.proofs.FactorsLaws.{bands_at}
 
 -- the factor of window k % 3 of band k / 3
 abbrev pub cell : List (List ℕ) → ℕ → ℕ

@@ -2,7 +2,7 @@
 use mathlib.Core.Path.{◌≡◌, refl, sym, ap, ◌∙◌}
 use Rattle.standard.specs.Told.{Told, refused, told, verdict_of}
 use Rattle.standard.specs.ToldLaws.{told_is}
-use Rattle.standard.specs.RefusalsLaws.{apart, unlike, refused_for_lem}
+use Rattle.standard.proofs.RefusalsLaws.{apart, unlike, refused_for_lem}
 use Rattle.standard.specs.declared.Refusal.{Refusal}
 use Rattle.standard.specs.declared.Verdict.{Verdict}
 use Rattle.standard.specs.declared.Verdict.TheVariants.{Accepted, Refused}

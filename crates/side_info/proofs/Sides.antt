@@ -8,7 +8,7 @@ use borrow.Author.Tests.{lt-ltb, le-ltb}
 use lib.ListN.{length, take, drop, replicate}
 use Rattle.standard.specs.Told.{Told, refused, told, pick}
 use Rattle.standard.specs.ToldLaws.{picked, passed, told_is}
-use Rattle.standard.specs.RefusalsLaws.{apart, one-reason}
+use Rattle.standard.proofs.RefusalsLaws.{apart, one-reason}
 use Rattle.standard.specs.Bits.{bits, field, field_at}
 use Rattle.standard.specs.BitsLaws.{one-le, drop_bits, take-bits, field-bits}
 use Rattle.standard.specs.Header.{is_header, is_mpeg1, is_two, is_slow, header_size, side_bytes}

@@ -1,8 +1,8 @@
 -- What no two readers may disagree on, for every public function of `frame`. Printed by scripts/catalogue.
 use Prim.Native.Nat.{ℕ}
 use Rattle.demands.proofs.Call.{OneAnswer, OneState, alike}
-use Rattle.standard.specs.FrameLaws.{one-frame}
-use Rattle.standard.specs.SlotsLaws.{one-slots}
+use Rattle.standard.proofs.FrameLaws.{one-frame}
+use Rattle.standard.proofs.SlotsLaws.{one-slots}
 use lib.IntN.{ℤ}
 use mathlib.Core.List.{List}
 use Rattle.frame.proofs.answers.lacking_slots.Reads as lacking-slots

@@ -1,6 +1,6 @@
 -- What no two readers may disagree on, for every public function of `header`. Printed by scripts/catalogue.
 use Rattle.demands.proofs.Call.{OneAnswer, alike}
-use Rattle.standard.specs.RefusalsLaws.{one-header}
+use Rattle.standard.proofs.RefusalsLaws.{one-header}
 use Rattle.header.proofs.read_frame_header.Reads as read-frame-header
 use Rattle.header.proofs.read_frame_header.Kinds as read-frame-header-kinds
 use Rattle.header.proofs.is_header.Reads as is-header

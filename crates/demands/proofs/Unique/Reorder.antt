@@ -1,6 +1,6 @@
 -- What no two readers may disagree on, for every public function of `reorder`. Printed by scripts/catalogue.
 use Rattle.demands.proofs.Call.{OneState}
-use Rattle.standard.specs.RefusalsLaws.{one_answer}
+use Rattle.standard.proofs.RefusalsLaws.{one_answer}
 use Rattle.reorder.proofs.reorder.Reads as reorder
 use Rattle.reorder.proofs.reorder.Kinds as reorder-kinds
 

@@ -1,6 +1,6 @@
 -- What no two readers may disagree on, for every public function of `reservoir`. Printed by scripts/catalogue.
 use Rattle.demands.proofs.Call.{OneAnswer, OneState, alike}
-use Rattle.standard.specs.ReservoirLaws.{one-turn}
+use Rattle.standard.proofs.ReservoirLaws.{one-turn}
 use Rattle.reservoir.proofs.emptied.Reads as emptied
 use Rattle.reservoir.proofs.emptied.Kinds as emptied-kinds
 use Rattle.reservoir.proofs.turn.Reads as turn

@@ -1,6 +1,6 @@
 -- What no two readers may disagree on, for every public function of `side_info`. Printed by scripts/catalogue.
 use Rattle.demands.proofs.Call.{OneAnswer}
-use Rattle.standard.specs.RefusalsLaws.{one_answer}
+use Rattle.standard.proofs.RefusalsLaws.{one_answer}
 use Rattle.standard.specs.Told.{refused}
 use mathlib.Core.Path.{refl}
 use Rattle.side_info.proofs.side_under.Reads as side-under

@@ -3,7 +3,7 @@
 use borrow.Author.Rules.{rules}
 use native.Mathlib.Omega.{arith}
 use Rattle.standard.specs.Header.{data_size}
-use Rattle.standard.specs.HeaderLaws.{any_size, header-size}
+use Rattle.standard.proofs.HeaderLaws.{any_size, header-size}
 use Rattle.standard.specs.BitsLaws.{one-le}
 use Rattle.derived.proofs.data_size.Statement.{statement}
 use Rattle.derived.proofs.data_size.Tie as tie

@@ -2,7 +2,7 @@
 use borrow.Author.Rules.{rules}
 use native.Mathlib.Omega.{arith}
 use Rattle.standard.specs.Header.{frame_length}
-use Rattle.standard.specs.HeaderLaws.{frame-length_any}
+use Rattle.standard.proofs.HeaderLaws.{frame-length_any}
 use Rattle.derived.proofs.frame_length.Statement.{statement}
 use Rattle.derived.proofs.frame_length.Tie as tie
 

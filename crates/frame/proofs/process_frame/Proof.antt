@@ -4,7 +4,7 @@ use mathlib.Core.Path.{refl, sym, ap, ◌∙◌, subst}
 use lib.ListN.{length, take}
 use Rattle.standard.specs.Refusals.{told_header}
 use Rattle.standard.specs.Frame.{FrameRead}
-use Rattle.standard.specs.FrameLaws.{call_few_bytes, call_much_stated, call_few_numbers, call_fits, step-refused, frame-no_header}
+use Rattle.standard.proofs.FrameLaws.{call_few_bytes, call_much_stated, call_few_numbers, call_fits, step-refused, frame-no_header}
 use Rattle.frame.specs.Reasons.{reason_of}
 use borrow.Author.Rules.{rules}
 use Rattle.frame.proofs.process_frame.Statement.{statement}

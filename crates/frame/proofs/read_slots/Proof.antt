@@ -3,7 +3,7 @@
 use mathlib.Core.Path.{refl, sym, ◌∙◌}
 use mathlib.Core.Bool.{◌&&◌}
 use Rattle.standard.specs.ToldLaws.{both_of}
-use Rattle.standard.specs.SlotsLaws.{few_numbers, made-up_call, read-call, slots-refused, slots-told}
+use Rattle.standard.proofs.SlotsLaws.{few_numbers, made-up_call, read-call, slots-refused, slots-told}
 use borrow.Author.Rules.{rules}
 use Rattle.frame.proofs.read_slots.Statement.{statement}
 use Rattle.frame.proofs.read_slots.Tie as tie

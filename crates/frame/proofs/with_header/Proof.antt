@@ -2,11 +2,11 @@
 -- Assumes nothing.
 use mathlib.Core.Path.{refl, ◌∙◌}
 use native.Mathlib.Omega.{arith}
-use Rattle.standard.specs.RefusalsLaws.{answered_told, answered_refused}
-use Rattle.standard.specs.HeaderLaws.{frame-length_le, frame-length_any}
-use Rattle.standard.specs.HeaderBytes.{header-known}
-use Rattle.standard.specs.SideBytes.{side_known}
-use Rattle.standard.specs.FrameLaws.{step-refused, frame-no_side, frame-absent}
+use Rattle.standard.proofs.RefusalsLaws.{answered_told, answered_refused}
+use Rattle.standard.proofs.HeaderLaws.{frame-length_le, frame-length_any}
+use Rattle.standard.proofs.HeaderBytes.{header-known}
+use Rattle.standard.proofs.SideBytes.{side_known}
+use Rattle.standard.proofs.FrameLaws.{step-refused, frame-no_side, frame-absent}
 use Rattle.frame.proofs.Stages.{side_read, parts, main_length, whole-frame}
 use borrow.Author.Rules.{rules}
 use Rattle.frame.proofs.with_header.Statement.{statement}

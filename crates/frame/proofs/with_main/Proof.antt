@@ -3,7 +3,7 @@
 use mathlib.Core.Path.{refl, sym}
 use native.Mathlib.Omega.{arith}
 use lib.Seq.{length-take-le}
-use Rattle.standard.specs.FrameLaws.{kept_within, step-short, step-full}
+use Rattle.standard.proofs.FrameLaws.{kept_within, step-short, step-full}
 use Rattle.frame.proofs.Stages.{fits_turn}
 use borrow.Author.Rules.{rules}
 use Rattle.frame.proofs.with_main.Statement.{statement}

@@ -3,7 +3,7 @@ use mathlib.Core.Path.{refl, ◌∙◌, subst}
 use Prim.Native.Nat.{ℕ, ◌*◌, ◌≤◌, ◌<◌}
 use Rattle.standard.specs.declared.Refusal.TheVariants.{MadeUpRecord}
 use native.Mathlib.Omega.{arith}
-use Rattle.standard.specs.RefusalsLaws.{answered_told, answered_refused}
+use Rattle.standard.proofs.RefusalsLaws.{answered_told, answered_refused}
 use Rattle.front_end.proofs.Laws.{four_slots, under-no_side, under-both, reorder_refused, reorder_done, reorder_fits, reorder_there, reorder_lacking}
 use borrow.Author.Rules.{rules}
 use Rattle.front_end.proofs.reorder_under.Statement.{statement}

@@ -2,7 +2,7 @@
 use mathlib.Core.Path.{refl, sym, ◌∙◌}
 use borrow.Author.Rules.{rules}
 use Rattle.standard.specs.Header.{bitrates}
-use Rattle.standard.specs.HeaderRows.{as_mpeg1, as_mpeg2}
+use Rattle.standard.proofs.HeaderRows.{as_mpeg1, as_mpeg2}
 use Rattle.header.proofs.bitrates.Statement.{statement}
 use Rattle.header.proofs.bitrates.Tie as tie
 

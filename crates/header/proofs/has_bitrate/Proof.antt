@@ -5,7 +5,7 @@ use lib.Dec.{eqb}
 use borrow.Author.Rules.{rules}
 use Rattle.standard.specs.Rows.{member}
 use Rattle.standard.specs.Header.{bitrates, same_bitrate}
-use Rattle.standard.specs.HeaderRows.{as_mpeg1, as_mpeg2, bitrate_rows}
+use Rattle.standard.proofs.HeaderRows.{as_mpeg1, as_mpeg2, bitrate_rows}
 use Rattle.header.proofs.has_bitrate.Statement.{statement}
 use Rattle.header.proofs.has_bitrate.Tie as tie
 

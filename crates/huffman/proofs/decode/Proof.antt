@@ -4,7 +4,7 @@ use native.Mathlib.Omega.{arith}
 use lib.IntN.{pos}
 use lib.ListN.{length, length-replicate}
 use Rattle.standard.specs.Record.{shape_of}
-use Rattle.standard.specs.RegionsLaws.{boundaries_rise}
+use Rattle.standard.proofs.RegionsLaws.{boundaries_rise}
 use Rattle.standard.specs.declared.Regions.{Regions}
 use Rattle.huffman.proofs.Whole.{pairs-over, none_read, quads-read}
 use borrow.Author.Rules.{rules}

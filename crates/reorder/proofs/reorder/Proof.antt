@@ -6,9 +6,9 @@ use Prim.Native.Nat.{ℕ}
 use native.Mathlib.Omega.{arith}
 use Rattle.standard.specs.SideInfo.{is_record_under}
 use Rattle.standard.specs.Told.{told}
-use Rattle.standard.specs.RefusalsLaws.{answers_refused, answers_told}
+use Rattle.standard.proofs.RefusalsLaws.{answers_refused, answers_told}
 use Rattle.standard.specs.Reorder.{first_short, reordered_from}
-use Rattle.standard.specs.ReorderLaws.{few_numbers, made_up, in_order, first-le}
+use Rattle.standard.proofs.ReorderLaws.{few_numbers, made_up, in_order, first-le}
 use borrow.Author.Rules.{rules}
 use Rattle.reorder.proofs.reorder.Statement.{statement}
 use Rattle.reorder.proofs.reorder.Tie as tie

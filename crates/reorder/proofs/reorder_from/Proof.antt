@@ -7,7 +7,7 @@ use lib.IntN.{ℤ}
 use lib.ListN.{length, drop}
 use lib.Seq.{length-take-le}
 use Rattle.standard.specs.Reorder.{order_of, gathered}
-use Rattle.standard.specs.ReorderLaws.{short_tops}
+use Rattle.standard.proofs.ReorderLaws.{short_tops}
 use Rattle.reorder.proofs.Bands.{Ordered, ordered-begin, ordered-turn, ordered_end, within}
 use Rattle.reorder.proofs.reorder_from.Statement.{statement}
 use Rattle.reorder.proofs.reorder_from.Tie as tie

@@ -7,7 +7,7 @@ use native.Mathlib.Omega.{arith}
 use lib.ListN.{length, drop}
 use lib.Seq.{paste}
 use Rattle.standard.specs.Reservoir.{turn_kept, turn_verdict}
-use Rattle.standard.specs.ReservoirLaws.{few_lent, much_stated, too_long, short_turn, reached_turn, short_bytes, short_length, reached_length, reached_bytes, unfit-turned, changed_turned}
+use Rattle.standard.proofs.ReservoirLaws.{few_lent, much_stated, too_long, short_turn, reached_turn, short_bytes, short_length, reached_length, reached_bytes, unfit-turned, changed_turned}
 use Rattle.lent_bytes.specs.PutLaws.{put_whole, slid_whole}
 use borrow.Author.Rules.{rules}
 use Rattle.reservoir.proofs.turn.Statement.{statement}

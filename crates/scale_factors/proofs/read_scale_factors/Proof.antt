@@ -7,7 +7,7 @@ use native.Mathlib.Omega.{arith}
 use lib.ListN.{replicate}
 use borrow.Author.Rules.{rules}
 use Rattle.standard.specs.Factors.{sources_of, plan_bits}
-use Rattle.standard.specs.FactorsLaws.{few_factors, plan-small, room}
+use Rattle.standard.proofs.FactorsLaws.{few_factors, plan-small, room}
 use Rattle.standard.specs.declared.Plan.{Plan}
 use Rattle.scale_factors.specs.Groups.{filled, old_for}
 use Rattle.scale_factors.proofs.Plans.{plan-fit, long-read, short_read}

@@ -7,7 +7,7 @@ use Prim.Native.Nat.{ℕ, ◌+◌, ◌-◌, ◌≤◌}
 use native.Mathlib.Omega.{arith}
 use lib.ListN.{length, take, drop, replicate}
 use Rattle.standard.specs.Factors.{short_count, short_from}
-use Rattle.standard.specs.FactorsLaws.{room}
+use Rattle.standard.proofs.FactorsLaws.{room}
 use Rattle.standard.specs.declared.Shape.{Shape}
 use Rattle.standard.specs.declared.Shape.TheVariants.{AllLong, AllShort, LongThenShort}
 use Rattle.scale_factors.proofs.Plans.{bands_back}

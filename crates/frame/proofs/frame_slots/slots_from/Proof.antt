@@ -6,7 +6,7 @@ use native.Mathlib.Omega.{arith}
 use borrow.Author.Rules.{rules}
 use lib.ListN.{length}
 use Rattle.standard.specs.Header.{granules, channel_count}
-use Rattle.standard.specs.SideLaws.{four_slots}
+use Rattle.standard.proofs.SideLaws.{four_slots}
 use Rattle.standard.specs.Record.{past_record}
 use Rattle.frame.proofs.Turns.{Turning, turning_begin, turning_part, turning_end, record_at_lem, part_long, four_at_most, some_channels}
 use Rattle.frame.proofs.frame_slots.slots_from.Statement.{statement}

@@ -3,7 +3,7 @@ use mathlib.Core.Path.{refl}
 use Prim.Native.Nat.{◌+◌, ◌*◌, ◌≤◌, ◌<◌}
 use native.Mathlib.Omega.{arith}
 use lib.ListN.{length}
-use Rattle.standard.specs.SlotsLaws.{slot_in-missing, slot_in-read}
+use Rattle.standard.proofs.SlotsLaws.{slot_in-missing, slot_in-read}
 use Rattle.frame.proofs.Slots.{stopped_read}
 use borrow.Author.Rules.{rules}
 use Rattle.frame.proofs.slot.read_slot.Statement.{statement}

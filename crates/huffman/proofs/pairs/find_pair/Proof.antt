@@ -7,7 +7,7 @@ use mir.Syntax.{w32}
 use mir.Val.{to_z, of_z}
 use Rattle.standard.specs.Codes.{word_of}
 use Rattle.standard.specs.Numbers.{pair_of}
-use Rattle.standard.specs.NumbersLaws.{escape_le}
+use Rattle.standard.proofs.NumbersLaws.{escape_le}
 use Rattle.standard.specs.declared.Refusal.TheVariants.{PairOverrun}
 use Rattle.standard.specs.declared.Pair.TheVariants.{Two, NoPair}
 use Rattle.huffman.specs.Owns.{Owns}

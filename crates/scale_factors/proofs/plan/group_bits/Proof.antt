@@ -7,7 +7,7 @@ use native.Mathlib.Omega.{arith}
 use lib.ListN.{get_or}
 use mir.Syntax.{w16}
 use mir.Val.{Fits}
-use Rattle.standard.specs.FactorsLaws.{group-bits}
+use Rattle.standard.proofs.FactorsLaws.{group-bits}
 use borrow.Author.Rules.{rules}
 use Rattle.scale_factors.proofs.plan.group_bits.Statement.{statement}
 use Rattle.scale_factors.proofs.plan.group_bits.Tie as tie

@@ -3,7 +3,7 @@
 use Prim.Native.Nat.{◌≤◌}
 use native.Mathlib.Omega.{arith}
 use borrow.Author.Rules.{rules}
-use Rattle.standard.specs.RefusalsLaws.{answers_told}
+use Rattle.standard.proofs.RefusalsLaws.{answers_told}
 use Rattle.side_info.proofs.Cuts.{nine_below}
 use Rattle.side_info.proofs.Sides.{side_refused, side_told}
 use Rattle.side_info.proofs.side.read_bits.Statement.{statement}

@@ -7,7 +7,7 @@ use native.Mathlib.Omega.{arith}
 use borrow.Author.Rules.{rules}
 use lib.ListN.{get_or}
 use Rattle.standard.specs.Bands.{short_rows}
-use Rattle.standard.specs.BandsLaws.{row_lt, short_within, short_past}
+use Rattle.standard.proofs.BandsLaws.{row_lt, short_within, short_past}
 use Rattle.tables.proofs.bands.short_start.Statement.{statement}
 use Rattle.tables.proofs.bands.short_start.Tie as tie
 use Rattle.tables.proofs.bands.short_start.Reads as reads

@@ -3,7 +3,7 @@ use native.Mathlib.Omega.{arith}
 use mathlib.Core.List.{[]}
 use lib.ListN.{get_or}
 use Rattle.standard.specs.Lengths.{low_counts}
-use Rattle.standard.specs.LengthsLaws.{range_lt}
+use Rattle.standard.proofs.LengthsLaws.{range_lt}
 use borrow.Author.Rules.{rules}
 use Rattle.tables.proofs.lengths.lfs_counts.Statement.{statement}
 use Rattle.tables.proofs.lengths.lfs_counts.Tie as tie

@@ -10,16 +10,16 @@ use Rattle.standard.specs.ToldLaws.{picked, passed, never, both_of, either_way}
 use Rattle.standard.specs.Bits.{bits}
 use Rattle.standard.specs.Written.{Bytes}
 use Rattle.standard.specs.Header.{is_mpeg1, is_two, is_slow, last_bytes, second_byte, header_of, header_size, side_bytes, side_size, main_size, frame_length}
-use Rattle.standard.specs.HeaderBytes.{header-known}
-use Rattle.standard.specs.HeaderLaws.{reservoir-le}
+use Rattle.standard.proofs.HeaderBytes.{header-known}
+use Rattle.standard.proofs.HeaderLaws.{reservoir-le}
 use Rattle.standard.specs.Record.{record_in, record_of, record_width}
 use Rattle.standard.specs.SideInfo.{then_records, records_of, then_side, side_in, side_from, side_of}
-use Rattle.standard.specs.SideBytes.{side_known}
-use Rattle.standard.specs.SlotsLaws.{length-slots}
-use Rattle.standard.specs.SlotBounds.{slots-le}
+use Rattle.standard.proofs.SideBytes.{side_known}
+use Rattle.standard.proofs.SlotsLaws.{length-slots}
+use Rattle.standard.proofs.SlotBounds.{slots-le}
 use Rattle.standard.specs.Reservoir.{reaching, adding, turn_of, unfit}
 use Rattle.standard.specs.Frame.{Step, no_step, short_step, full_step, with_turn, frame_of, frame_call, main_of}
-use Rattle.standard.specs.FrameLaws.{call_few_numbers, frame-no_header, frame-no_side, frame-absent, frame-turn}
+use Rattle.standard.proofs.FrameLaws.{call_few_numbers, frame-no_header, frame-no_side, frame-absent, frame-turn}
 use Rattle.standard.specs.declared.FrameHeader.{FrameHeader}
 use Rattle.standard.specs.declared.SlotRecord.{SlotRecord}
 use Rattle.standard.specs.declared.SideInfo.{SideInfo}
@@ -54,8 +54,8 @@ of_record n = leb 10 n && leb n 12
 record_only : (mpeg1 slow : Bool) (b : List Bool) → only of_record (record_of mpeg1 slow b) ≡ true
 unfolding record_of record_in only
 record_only mpeg1 slow b =
-    pick-only _ _ _ _ refl
-    (either_way (λ (t : Told SlotRecord). only of_record t ≡ true) _ _ _ (λ e. refl) (λ e. pick-only _ _ _ _ refl (pick-only _ _ _ _ refl refl)))
+    pick-only of_record _ _ _ refl
+    (either_way (λ (t : Told SlotRecord). only of_record t ≡ true) _ _ _ (λ e. refl) (λ e. pick-only of_record _ _ _ refl (pick-only of_record _ _ _ refl refl)))
 
 then_only : (p : ℕ → Bool) (t : Told SlotRecord) (ts : Told (List SlotRecord)) → only p t ≡ true → only p ts ≡ true → only p (then_records t ts) ≡ true
 unfolding then_records only
@@ -112,7 +112,7 @@ side_other h s =
     let two = is_two h.channels in
     let slow = is_slow h.rate in
     either_way (λ (t : Told SideInfo). only (but 13) t ≡ true) _ _ _
-    (λ e. pick-only _ _ _ _ refl (side_in_but 13 refl refl _ mpeg1 two slow (bits s (8 * header_size h) (8 * side_bytes mpeg1 two)))) (λ e. refl)
+    (λ e. pick-only (but 13) _ _ _ refl (side_in_but 13 refl refl _ mpeg1 two slow (bits s (8 * header_size h) (8 * side_bytes mpeg1 two)))) (λ e. refl)
 
 -- ---- the three ways
 -- a frame all of whose bytes are there

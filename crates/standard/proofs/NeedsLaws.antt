@@ -11,18 +11,18 @@ use Rattle.std.proofs.Math.ListN.{length}
 use Rattle.standard.specs.Told.{Told, refused, told, pick, verdict_of}
 use Rattle.standard.specs.ToldLaws.{picked, passed, never, no_refusal, told_is, either_way}
 use Rattle.standard.specs.Refusals.{number_of, offset_of}
-use Rattle.standard.specs.RefusalsLaws.{why_is, unlike}
+use Rattle.standard.proofs.RefusalsLaws.{why_is, unlike}
 use Rattle.standard.specs.Bits.{one, bits}
 use Rattle.standard.specs.Crc.{crc_fits}
 use Rattle.standard.specs.Written.{Bytes}
 use Rattle.standard.specs.Header.{fields, last_bytes, second_byte, header_of, is_header, is_mpeg1, is_two, is_slow, header_size, side_bytes, side_size, main_size, data_size, frame_length}
 use Rattle.standard.specs.Header.{sync_least, ID, layer, protection_bit}
-use Rattle.standard.specs.HeaderLaws.{header-size, side_size_lem, main_and_side}
-use Rattle.standard.specs.HeaderBytes.{header-known}
+use Rattle.standard.proofs.HeaderLaws.{header-size, side_size_lem, main_and_side}
+use Rattle.standard.proofs.HeaderBytes.{header-known}
 use Rattle.standard.specs.SideInfo.{needed_from, absent_from, side_in, side_from, side_of}
 use Rattle.standard.specs.Frame.{Step, no_step, short_step, full_step, with_turn, frame_of}
-use Rattle.standard.specs.FrameLaws.{frame-no_header, frame-no_side, frame-absent, frame-turn}
-use Rattle.standard.specs.StepLaws.{only, but, side_in_but}
+use Rattle.standard.proofs.FrameLaws.{frame-no_header, frame-no_side, frame-absent, frame-turn}
+use Rattle.standard.proofs.StepLaws.{only, but, side_in_but}
 use Rattle.standard.specs.Needs.{wrong_second, wrong_last, header_needs, side_needs, needs_by, frame_needs, FirstAbsent}
 use Rattle.standard.specs.declared.FrameHeader.{FrameHeader}
 use Rattle.standard.specs.declared.SideInfo.{SideInfo}

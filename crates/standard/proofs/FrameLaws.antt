@@ -7,7 +7,7 @@ use Rattle.std.proofs.Math.ListN.{length, take, length-append}
 use Rattle.std.proofs.Math.Seq.{take_at}
 use Rattle.standard.specs.Told.{Told, refused, told}
 use Rattle.standard.specs.ToldLaws.{picked, passed, either_left, either_right, neither}
-use Rattle.standard.specs.RefusalsLaws.{unlike}
+use Rattle.standard.proofs.RefusalsLaws.{unlike}
 use Rattle.standard.specs.Header.{header_of, header_size, side_size, main_size, frame_length, no_header, is_header}
 use Rattle.standard.specs.SideInfo.{side_of, no_side, is_side}
 use Rattle.standard.specs.Slots.{Outcome, slots_of, slots_told, numbers_from}

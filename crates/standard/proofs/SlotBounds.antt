@@ -12,13 +12,13 @@ use Rattle.standard.specs.Codes.{word_of}
 use Rattle.standard.specs.Header.{is_mpeg1, is_two, is_slow, granules_in, channels_in, granules, channel_count, is_header}
 use Rattle.standard.specs.Record.{shape_of, absent}
 use Rattle.standard.specs.SideInfo.{is_side}
-use Rattle.standard.specs.SideLaws.{slot_record, small-record}
+use Rattle.standard.proofs.SideLaws.{slot_record, small-record}
 use Rattle.standard.specs.Factors.{plan_of, sources_of, plan_bits}
 use Rattle.standard.specs.Numbers.{Numbers, halted, got}
-use Rattle.standard.specs.NumbersLaws.{Bounded, AtMost, Gives, numbers-bounded, published-fits}
+use Rattle.standard.proofs.NumbersLaws.{Bounded, AtMost, Gives, numbers-bounded, published-fits}
 use Rattle.standard.specs.Slots.{Outcome, stopped, holds, any_of, with_factors, slot_by, slot_of, slot_in, then_slots, slots_from, slots_of, read_slots, start_of, records, outcome_of}
-use Rattle.standard.specs.HaltLaws.{allowed, slot_allowed, is_other, not_alien}
-use Rattle.standard.specs.SlotsLaws.{length-slots, few_numbers}
+use Rattle.standard.proofs.HaltLaws.{allowed, slot_allowed, is_other, not_alien}
+use Rattle.standard.proofs.SlotsLaws.{length-slots, few_numbers}
 use Rattle.standard.specs.declared.FrameHeader.{FrameHeader}
 use Rattle.standard.specs.declared.SideInfo.{SideInfo}
 use Rattle.standard.specs.declared.SlotRecord.{SlotRecord}

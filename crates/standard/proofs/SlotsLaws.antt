@@ -19,7 +19,7 @@ use Rattle.standard.specs.BitsLaws.{bits-append}
 use Rattle.standard.specs.CopyLaws.{take-drop}
 use Rattle.standard.specs.Header.{is_header, granules, channel_count}
 use Rattle.standard.specs.Record.{past_record}
-use Rattle.standard.specs.HaltLaws.{allowed, slot_allowed, is_other, not_missing}
+use Rattle.standard.proofs.HaltLaws.{allowed, slot_allowed, is_other, not_missing}
 use Rattle.standard.specs.SideInfo.{is_side}
 use Rattle.standard.specs.Numbers.{padded}
 use Rattle.standard.specs.Slots.{Outcome, stopped, holds, is_stopped, long_of, setting_of, mate_of, slot_of, slot_in, then_slots, slots_from, slots_of, slot_told, lacking_slot, slots_told, numbers_after, numbers_from, read_slots, SlotsRead, records, start_of, outcome_of, part_of, own_of}

@@ -20,9 +20,9 @@ use Rattle.standard.specs.BitsLaws.{length-bits, field_lt, bits-after}
 use Rattle.standard.specs.Crc.{crc_fits}
 use Rattle.standard.specs.Written.{Part, ◌in-bits◌, write, stands, length-write, Bytes, bytes-append, pack, length-pack, bytes-pack, bits-pack}
 use Rattle.standard.specs.Header.{is_mpeg1, is_two, is_slow, header_of, is_header, header_size, side_bytes, granules, channel_count}
-use Rattle.standard.specs.HeaderBytes.{header_bytes, length-header, header-back, bytes-header, fitting, fits_after}
+use Rattle.standard.proofs.HeaderBytes.{header_bytes, length-header, header-back, bytes-header, fitting, fits_after}
 use Rattle.standard.specs.Record.{absent, record_of, record_width, is_record, is_unmixed, is_head, is_preflag, is_long_body, is_long, gain_below, below, trio}
-use Rattle.standard.specs.RecordBits.{no_gain_lem, no_gain_is, no_table_is, trio-is, trio-all, three, long-is, bits_of_record, length-record, record_back, record_known}
+use Rattle.standard.proofs.RecordBits.{no_gain_lem, no_gain_is, no_table_is, trio-is, trio-all, three, long-is, bits_of_record, length-record, record_back, record_known}
 use Rattle.standard.specs.SideInfo.{begin_width, private_width, share_count, shares_at, slot_count, then_records, records_of, then_side, side_in, side_from, side_of, no_head, no_body, no_tail, is_absent, fit_slots, no_shares, are_shares, are_slots, is_side_by, is_record_under, is_side}
 use Rattle.standard.specs.declared.FrameHeader.{FrameHeader}
 use Rattle.standard.specs.declared.SlotRecord.{SlotRecord}

@@ -16,11 +16,11 @@ use Rattle.standard.specs.ToldLaws.{passed, no_refusal, told_is, both_of, both}
 use Rattle.standard.specs.Bits.{one, bit_at, bits, between, value, field_at}
 use Rattle.standard.specs.BitsLaws.{one-le, one-is, bits-after}
 use Rattle.standard.specs.Crc.{check_word, covered, crc_fits}
-use Rattle.standard.specs.CrcLaws.{fed-long}
+use Rattle.standard.proofs.CrcLaws.{fed-long}
 use Rattle.standard.specs.Rows.{member, place}
 use Rattle.standard.specs.RowsLaws.{member-at, place_at}
 use Rattle.standard.specs.Header.{same_bitrate, same_rate, bitrates, rates, version_of, emphasis_of, channels_of, fields, last_bytes, second_byte, header_of, is_header, header_size}
-use Rattle.standard.specs.HeaderLaws.{same_bitrate_lem, same_rate_lem, bitrate_self, rate_self, bitrate_count, rate_count}
+use Rattle.standard.proofs.HeaderLaws.{same_bitrate_lem, same_rate_lem, bitrate_self, rate_self, bitrate_count, rate_count}
 use Rattle.standard.specs.Written.{Bytes, bytes-append, pack, length-pack, bytes-pack, bits-pack}
 use Rattle.standard.specs.declared.MpegVersion.{MpegVersion}
 use Rattle.standard.specs.declared.MpegVersion.TheVariants.{Mpeg1, Mpeg2, Mpeg25}

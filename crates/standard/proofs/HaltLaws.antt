@@ -8,7 +8,7 @@ use Prim.Native.Nat.{ℕ, zero, suc, ◌+◌, ◌*◌}
 use Rattle.standard.specs.ToldLaws.{either_way}
 use Rattle.standard.specs.Refusals.{number_of}
 use Rattle.standard.specs.Codes.{word_of}
-use Rattle.standard.specs.CodesLaws.{complete}
+use Rattle.standard.proofs.CodesLaws.{complete}
 use Rattle.standard.specs.Record.{shape_of}
 use Rattle.standard.specs.Factors.{plan_of, sources_of, plan_bits}
 use Rattle.standard.specs.Numbers.{Reader, number_in, two_last, two_first, two_of, pair_after, pair_word, pair_of, quad_of, Numbers, halted, got, prepend, then_pairs, pairs, then_quads, quads, then_rest, numbers_by, regions_of, numbers_of, quad_word, quad_first, quad_last, quiet}

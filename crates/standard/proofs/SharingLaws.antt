@@ -6,7 +6,7 @@ use Rattle.standard.specs.Told.{pick}
 use Rattle.standard.specs.ToldLaws.{neither_of}
 use Rattle.standard.specs.Record.{shape_of}
 use Rattle.standard.specs.Factors.{plan_of, sources_of, plan_bits}
-use Rattle.standard.specs.FactorsLaws.{unshared_plan}
+use Rattle.standard.proofs.FactorsLaws.{unshared_plan}
 use Rattle.standard.specs.Codes.{word_of}
 use Rattle.standard.specs.Numbers.{numbers_of}
 use Rattle.standard.specs.Slots.{stopped, any_of, with_factors, slot_by, slot_of}

@@ -5,7 +5,7 @@ use Rattle.standard.specs.ToldLaws.{both_of}
 use Rattle.standard.specs.Header.{is_mpeg1, is_slow, is_two, granules, channel_count}
 use Rattle.standard.specs.Record.{absent, is_record, is_head}
 use Rattle.standard.specs.SideInfo.{are_slots, are_shares, is_side_by, is_record_under, is_side, fit_slots, begin_width, slot_count, share_count}
-use Rattle.standard.specs.SideBytes.{fit_at}
+use Rattle.standard.proofs.SideBytes.{fit_at}
 use Rattle.standard.specs.declared.FrameHeader.{FrameHeader}
 use Rattle.standard.specs.declared.SlotRecord.{SlotRecord}
 use Rattle.standard.specs.declared.SideInfo.{SideInfo}
