@@ -1,5 +1,7 @@
 // Lent main data and the bit place at which it is read. No function over a struct that holds a reference is covered: each is
 // thin, leaves the work to a function of slices and numbers, and is proved by a walk of its own.
+#![tactic(auto)]
+
 ghost use Rattle.std.specs.Prelude.{◌≡◌, min};
 ghost use Rattle.standard.specs.Bits.{field_at};
 ghost use Rattle.bit_reader.specs.Reader.{past, begun, here, ahead};

@@ -1,4 +1,6 @@
 // A bit, and a field of bits, at a bit place of a slice: most significant first, and 0 past the end; and how many bits are left.
+#![tactic(auto)]
+
 ghost use Rattle.std.specs.Prelude.{◌≡◌, ◌+◌, ◌-◌, ◌*◌, ◌/◌, ◌<◌, ◌≤◌, ◌^◌, min, length, get_or};
 ghost use Rattle.standard.specs.Bits.{bit_at, «one», field_at};
 

@@ -13,6 +13,8 @@
 //   r S NAME=V ..    the last frame's side information with other fields in its slot S, which may make it up (big, region0, region1, type, mixed)
 //   h          the last frame's header with the rate 8 kHz, which makes it up
 // The last two hold up to the next frame, emptying call, or line of the two.
+#![tactic(auto)]
+
 mod made_up;
 mod program;
 mod said;

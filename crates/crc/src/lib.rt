@@ -1,4 +1,6 @@
 // The check word of some bytes, a byte at a time, and whether a frame's own fits.
+#![tactic(auto)]
+
 ghost use Rattle.std.specs.Prelude.{◌≡◌, ◌*◌, ◌<◌};
 ghost use Rattle.standard.specs.Bits.{between, «one», value};
 ghost use Rattle.standard.specs.Written.{bits_of};

@@ -1,5 +1,7 @@
 // What follows from a declared value: what a header's fields say, the sizes and counts of its frame, the shape of a record, the
 // number of a refusal.
+#![tactic(auto)]
+
 ghost use Rattle.std.specs.Prelude.{◌≡◌, ◌*◌, ◌/◌};
 ghost use Rattle.standard.specs.Record.{shape_by, is_mixed};
 ghost use Rattle.standard.specs.Factors.{may_share};

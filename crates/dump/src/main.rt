@@ -1,6 +1,8 @@
 // Everything that the frame step tells of a card, line by line, to be held to another reader's: oracle/README.md has the form. Words
 // as arguments: `on`, go on after a refused frame; `cards`, the input is many cards, each after four bytes that say how long it is;
 // or, alone, `replay`: read the files of data/ and write one line for each.
+#![tactic(auto)]
+
 mod files;
 mod rows;
 mod walk;

@@ -1,5 +1,7 @@
 // A frame's answer as numbers, for the exported rows and for programs that print it or hold it to another reader's: the fields of its header, its side
 // information and its slots' records, and where the next frame is tried.
+#![tactic(auto)]
+
 ghost use Rattle.std.specs.Prelude.{◌≡◌};
 ghost use Rattle.fields.specs.Values.{bit_of, version_number, mode_number, is_mid_side, emphasis_number, block_number, header_values, side_values, record_values, scale_values, is_told, step_of};
 

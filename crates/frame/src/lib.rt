@@ -1,5 +1,7 @@
 // One frame of a recording, from its bytes and what the frames before it left in the reservoir; and its slots from given main data: each cut out by the lengths
 // before it, read, and answered.
+#![tactic(auto)]
+
 ghost use Rattle.std.specs.Prelude.{◌≡◌, true, [], map, ◌≤◌, length, take};
 ghost use Rattle.standard.specs.Sizes.{reservoir_bytes, per_frame};
 ghost use Rattle.standard.specs.Told.{told};

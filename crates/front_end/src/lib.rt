@@ -1,5 +1,7 @@
 // The front end for C and Rust: exported calls on numbers and on slices of numbers. Each is total, and what it answers is laid out in
 // specs/Calls.antt. A frame's bytes are always handed in from the first byte of its header on.
+#![tactic(auto)]
+
 ghost use Rattle.std.specs.Prelude.{◌≡◌, ◌≤◌, length};
 ghost use Rattle.standard.specs.Sizes.{per_frame, per_slot};
 ghost use Rattle.standard.specs.Told.{told};

@@ -1,4 +1,6 @@
 // A frame's header: read from its first bytes, and which header records bytes read to.
+#![tactic(auto)]
+
 ghost use Rattle.std.specs.Prelude.{◌≡◌, ◌&&◌, ◌<◌, ◌/◌, ◌%◌, leb, length};
 ghost use Rattle.standard.specs.Rows.{member};
 ghost use Rattle.standard.specs.Told.{refused};

@@ -1,4 +1,6 @@
 // A slot's numbers, from the bits after its scale factors: regions, pairs, quads.
+#![tactic(auto)]
+
 mod find;
 mod flat;
 mod pairs;

@@ -1,4 +1,6 @@
 // An input of any length, read piece by piece: lent bytes hold a part of it, and a record says which of them are still unread.
+#![tactic(auto)]
+
 ghost use Rattle.std.specs.Prelude.{◌≡◌, ◌≤◌, length};
 ghost use Rattle.input.specs.Held.{unread_of, taken_of, Slid, GotIn, ReadOn, FilledUp};
 

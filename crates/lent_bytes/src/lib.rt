@@ -1,4 +1,6 @@
 // Bytes put and moved in lent memory. What finds no room is left out.
+#![tactic(auto)]
+
 ghost use Rattle.std.specs.Prelude.{◌≡◌, ◌-◌, min, length};
 ghost use Rattle.lent_bytes.specs.Put.{Put, slid_of};
 

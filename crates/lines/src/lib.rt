@@ -1,4 +1,6 @@
 // The lines of the program `slots` (docs/RULES.md), as text in lent bytes. Each function answers the place after what it put.
+#![tactic(auto)]
+
 pub mod text;
 
 ghost use Rattle.std.specs.Prelude.{◌≡◌, ◌++◌, ◌/◌, ◌%◌, take, drop};

@@ -1,4 +1,6 @@
 // Which records and side information bytes read to; how side information is laid out, and what its fields are given.
+#![tactic(auto)]
+
 ghost use Rattle.std.specs.Prelude.{◌≡◌};
 ghost use Rattle.standard.specs.SideInfo.{is_record_under, is_side};
 

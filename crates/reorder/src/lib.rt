@@ -1,4 +1,6 @@
 // The short-block reorder: window by window before it, frequency by frequency after it.
+#![tactic(auto)]
+
 ghost use Rattle.std.specs.Prelude.{◌≡◌, ◌+◌, ◌*◌, ◌≤◌, length, take, set};
 ghost use Rattle.std.proofs.Math.Seq.{paste};
 ghost use Rattle.standard.specs.Sizes.{per_slot};

@@ -1,4 +1,6 @@
 // The bit reservoir: what a frame keeps of it and adds to it, in lent bytes.
+#![tactic(auto)]
+
 ghost use Rattle.std.specs.Prelude.{◌≡◌};
 ghost use Rattle.standard.specs.Reservoir.{turn_in, Turned, «emptied»};
 

@@ -1,4 +1,6 @@
 // A slot's scale factors.
+#![tactic(auto)]
+
 pub mod plan;
 
 ghost use Rattle.std.specs.Prelude.{◌≡◌, true, ◌++◌, ◌+◌, ◌-◌, ◌<◌, ◌≤◌, length, get_or, take, drop, replicate};

@@ -1,4 +1,6 @@
 // A frame's side information, read from its bytes.
+#![tactic(auto)]
+
 ghost use Rattle.standard.specs.Refusals.{Answers};
 ghost use Rattle.standard.specs.SideInfo.{no_side, side_under, side_of};
 

@@ -1,4 +1,6 @@
 // Reads frames from standard input, from an empty reservoir, and writes what is in them, until the input ends or a frame is refused.
+#![tactic(auto)]
+
 use derived::is_two;
 use frame::process_frame;
 use input::{Filled, Held, Input, blank, fill, taken, unread};

@@ -1,4 +1,5 @@
 // What is read from a card, and what is answered. There are no functions here: the definitions of specs/ go by these types.
+#![tactic(auto)]
 
 // ---- sizes, by the names that Sizes.antt has for them
 pub const SLOT_NUMBERS: usize = 576;
