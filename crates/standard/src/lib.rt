@@ -13,14 +13,14 @@ pub const RESERVOIR_BYTES: usize = 4096;
 // ---- the types
 
 // The document that a frame follows: ISO/IEC 11172-3, ISO/IEC 13818-3, or none (MPEG-2.5).
-#[derive(Drop)]
+#[derive(Clone, Copy)]
 pub enum MpegVersion {
     Mpeg1,
     Mpeg2,
     Mpeg25,
 }
 
-#[derive(Drop)]
+#[derive(Clone, Copy)]
 pub enum Channels {
     Mono,
     DualMono,
@@ -28,7 +28,7 @@ pub enum Channels {
     JointStereo { intensity: bool, mid_side: bool },
 }
 
-#[derive(Drop)]
+#[derive(Clone, Copy)]
 pub enum BitRate {
     Kbps8,
     Kbps16,
@@ -50,7 +50,7 @@ pub enum BitRate {
     Kbps320,
 }
 
-#[derive(Drop)]
+#[derive(Clone, Copy)]
 pub enum SampleRate {
     Hz8000,
     Hz11025,
@@ -63,7 +63,7 @@ pub enum SampleRate {
     Hz48000,
 }
 
-#[derive(Drop)]
+#[derive(Clone, Copy)]
 pub enum Emphasis {
     NoEmphasis,
     FiftyFifteen,
@@ -71,7 +71,7 @@ pub enum Emphasis {
 }
 
 // A frame's header. The layer is always III; sizes and the row of the band tables follow from these fields.
-#[derive(Drop)]
+#[derive(Clone, Copy)]
 pub struct FrameHeader {
     pub version: MpegVersion,
     pub crc: bool,
@@ -84,7 +84,7 @@ pub struct FrameHeader {
     pub emphasis: Emphasis,
 }
 
-#[derive(Drop)]
+#[derive(Clone, Copy)]
 pub enum BlockType {
     Long,
     Start,
@@ -94,7 +94,7 @@ pub enum BlockType {
 
 // Which bands a slot's factors and numbers are of: long ones; short ones in three windows; or, in a mixed block, long ones up to number 36 and short
 // ones from there on.
-#[derive(Drop)]
+#[derive(Clone, Copy)]
 pub enum Shape {
     AllLong,
     AllShort,
@@ -102,7 +102,7 @@ pub enum Shape {
 }
 
 // How a slot's bits hold its factors: four groups in turn, of so many factors, of so many bits each, or shared with granule 0.
-#[derive(Drop)]
+#[derive(Clone, Copy)]
 pub struct Plan {
     pub counts: [u16; 4],
     pub lengths: [u16; 4],
@@ -110,7 +110,7 @@ pub struct Plan {
 }
 
 // The side information of one slot: one granule of one channel.
-#[derive(Drop)]
+#[derive(Clone, Copy)]
 pub struct SlotRecord {
     pub part2_3_length: u16,
     pub big_values: u16,
@@ -129,7 +129,7 @@ pub struct SlotRecord {
 
 // A frame's side information. The n-th slot is of granule n / channels, channel n % channels; the sharing bit (scfsi) of a
 // channel's i-th group of factors is the one at 4 x channel + i.
-#[derive(Drop)]
+#[derive(Clone, Copy)]
 pub struct SideInfo {
     pub main_data_begin: u16,
     pub scfsi: [bool; 8],
@@ -137,14 +137,14 @@ pub struct SideInfo {
 }
 
 // The bytes that frames left behind stand in lent memory; this says how many of them, from the first, are meant.
-#[derive(Drop)]
+#[derive(Clone, Copy)]
 pub struct Reservoir {
     pub length: usize,
 }
 
 // Why a call, a frame or a slot is refused. Refusals.antt gives the number of each. Where bytes are absent, the offset of the first one that was
 // needed is told, from the frame's first byte; no frame is so long that it needs more than 16 bits.
-#[derive(Drop)]
+#[derive(Clone, Copy)]
 pub enum Refusal {
     UnfitMemory,
     MadeUpRecord,
@@ -169,20 +169,20 @@ pub enum Refusal {
     NoCodeword,
 }
 
-#[derive(Drop)]
+#[derive(Clone, Copy)]
 pub enum Verdict {
     Accepted,
     Refused(Refusal),
 }
 
-#[derive(Drop)]
+#[derive(Clone, Copy)]
 pub enum HeaderAnswer {
     Header(FrameHeader),
     NoHeader(Refusal),
 }
 
 // Side information, or a refusal and blank side information.
-#[derive(Drop)]
+#[derive(Clone, Copy)]
 pub struct SideInfoAnswer {
     pub verdict: Verdict,
     pub info: SideInfo,
@@ -190,7 +190,7 @@ pub struct SideInfoAnswer {
 
 // What a slot is read by, besides its record: whether the version is MPEG-1, whether it is the second channel under intensity
 // stereo, the sampling rate, and the sharing bits in force for its four groups of factors.
-#[derive(Drop)]
+#[derive(Clone, Copy)]
 pub struct Setting {
     pub mpeg1: bool,
     pub intensity: bool,
@@ -199,7 +199,7 @@ pub struct Setting {
 }
 
 // What became of a slot: read, with its count of numbers up to the last that was coded; refused; or one that the frame lacks.
-#[derive(Drop)]
+#[derive(Clone, Copy)]
 pub enum SlotOutcome {
     Read { count: u16 },
     NotRead(Refusal),
@@ -208,21 +208,21 @@ pub enum SlotOutcome {
 
 // A slot's answer beside its 576 numbers: 22 long factors, and three windows of each of 13 short bands, one after the other.
 // The factors of a slot that was not read are 0.
-#[derive(Drop)]
+#[derive(Clone, Copy)]
 pub struct SlotAnswer {
     pub outcome: SlotOutcome,
     pub long: [u8; 22],
     pub short: [u8; 39],
 }
 
-#[derive(Drop)]
+#[derive(Clone, Copy)]
 pub struct SlotsAnswer {
     pub verdict: Verdict,
     pub slots: [SlotAnswer; 4],
 }
 
 // What became of the reservoir, whose bytes stand in lent memory.
-#[derive(Drop)]
+#[derive(Clone, Copy)]
 pub struct ReservoirAnswer {
     pub verdict: Verdict,
     pub reservoir: Reservoir,
@@ -230,7 +230,7 @@ pub struct ReservoirAnswer {
 
 // A frame's answer. Of a refused frame, header, side information and slots are blank and the length is 0, except where only
 // the reservoir was too short: there all but the slots was read, and is told.
-#[derive(Drop)]
+#[derive(Clone, Copy)]
 pub struct FrameAnswer {
     pub verdict: Verdict,
     pub header: FrameHeader,
@@ -242,7 +242,7 @@ pub struct FrameAnswer {
 
 // One codeword: what it stands for and how many bits it takes; or the bits end within one; or they start none.
 // A pair (x, y) is the value 16 x + y, a quad (v, w, x, y) the value 8 v + 4 w + 2 x + y.
-#[derive(Drop)]
+#[derive(Clone, Copy)]
 pub enum Codeword {
     Coded { value: u8, used: usize },
     Cut,
@@ -250,35 +250,35 @@ pub enum Codeword {
 }
 
 // Where the tables of a slot's pairs change: positions among its 576 numbers.
-#[derive(Drop)]
+#[derive(Clone, Copy)]
 pub struct Regions {
     pub first: u16,
     pub second: u16,
 }
 
 // How large a number is, with the escape bits that say so; or the bits end within them.
-#[derive(Drop)]
+#[derive(Clone, Copy)]
 pub enum Magnitude {
     Sized { value: u32, used: usize },
     Unsized,
 }
 
 // A number with its escape and sign bits, and how many these are; or the bits end within them.
-#[derive(Drop)]
+#[derive(Clone, Copy)]
 pub enum Number {
     Whole { value: i32, used: usize },
     Broken,
 }
 
 // A pair with all of its bits, or why the slot is refused there.
-#[derive(Drop)]
+#[derive(Clone, Copy)]
 pub enum Pair {
     Two { x: i32, y: i32, used: usize },
     NoPair(Refusal),
 }
 
 // A quad with all of its bits; or one that does not end, and is dropped; or bits that start no quad.
-#[derive(Drop)]
+#[derive(Clone, Copy)]
 pub enum Quad {
     Four {
         v: i32,

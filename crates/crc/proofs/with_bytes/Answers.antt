@@ -1,0 +1,26 @@
+-- `crc::with_bytes` meets its contract: what is left to go in comes to the whole.
+-- Assumes nothing.
+use mathlib.Core.Path.{sym}
+use Prim.Native.Nat.{◌*◌, ◌-◌, ◌^◌, ◌<◌}
+use native.Mathlib.Omega.{arith}
+use Rattle.standard.specs.Bits.{between, value}
+use Rattle.standard.specs.Written.{bits_of}
+use Rattle.standard.specs.Crc.{fed}
+use Rattle.crc.proofs.Strings.{Feeding, begin_feeding, feed-on, end-feeding}
+use borrow.Author.Rules.{rules}
+use Rattle.crc.proofs.with_bytes.Goals as goal
+
+pub loop-i-init : goal.loop-i-init
+loop-i-init c = begin_feeding _ _ _ _ (omega arith)
+
+pub overflow_cast-byte : goal.overflow_cast-byte
+overflow_cast-byte c = omega (arith, c.byte.ensures.1)
+
+pub with_byte-word-requires : goal.with_byte-word-requires
+with_byte-word-requires c = c.byte.ensures.1
+
+pub loop-i-preserved : goal.loop-i-preserved
+loop-i-preserved c = feed-on c.loop-i.invariant c.loop-i-test.true _ _ c.byte.ensures.0 c.byte.ensures.1 c.with_byte-word.ensures
+
+pub returns : goal.returns
+returns c = end-feeding c.loop-i.invariant c.loop-i-test.false

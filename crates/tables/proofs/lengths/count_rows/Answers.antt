@@ -1,0 +1,36 @@
+-- `tables::lengths::count_rows` meets its contract: the three ordinary lists, and those under intensity stereo. Assumes nothing.
+use mathlib.Core.Path.{sym, ap, ◌∙◌}
+use mathlib.Core.Bool.{Bool, false}
+use Rattle.standard.specs.Lengths.{long_counts, short_counts, mixed_counts, count_rows}
+use borrow.Author.Rules.{rules}
+use Rattle.tables.proofs.lengths.count_rows.Goals as goal
+
+-- was the goal enum-told
+-- enum_told : tie.Need-enum-told
+-- enum_told c = search rules
+
+-- was the goal enum-told-2
+-- enum-told-2 : tie.Need-enum-told-2
+-- enum-told-2 c = search rules
+
+-- was the goal enum-told-3
+-- enum-told-3 : tie.Need-enum-told-3
+-- enum-told-3 c = search rules
+
+pub returns-in-AllLong : goal.returns-in-AllLong
+unfolding long_counts
+returns-in-AllLong c =
+    let a = c.args in
+    ap (count_rows false) (sym c.in-AllLong.is) ∙ ap (λ (x : Bool). count_rows x a.shape) (sym c.if-intensity.false)
+
+pub returns-in-AllShort : goal.returns-in-AllShort
+unfolding short_counts
+returns-in-AllShort c =
+    let a = c.args in
+    ap (count_rows false) (sym c.in-AllShort.is) ∙ ap (λ (x : Bool). count_rows x a.shape) (sym c.if-intensity.false)
+
+pub returns-in-LongThenShort : goal.returns-in-LongThenShort
+unfolding mixed_counts
+returns-in-LongThenShort c =
+    let a = c.args in
+    ap (count_rows false) (sym c.in-LongThenShort.is) ∙ ap (λ (x : Bool). count_rows x a.shape) (sym c.if-intensity.false)
