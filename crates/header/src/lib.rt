@@ -147,6 +147,7 @@ fn no_bytes(frame: &[u8]) -> HeaderAnswer
 }
 
 // The third and fourth byte. The CRC's two bytes are needed last of all.
+#[tactic(auto, unfolding(standard::specs::Header::last_bytes, standard::specs::Told::pick))]
 fn last_bytes(frame: &[u8]) -> HeaderAnswer
     requires { 3 < length frame.now }
     ensures { told_header result ≡ last_bytes frame.now }
@@ -174,6 +175,7 @@ fn last_bytes(frame: &[u8]) -> HeaderAnswer
 }
 
 // The second byte, and whether the third and fourth are there: they are needed together.
+#[tactic(auto, unfolding(standard::specs::Header::second_byte, standard::specs::Told::pick))]
 fn second_byte(frame: &[u8]) -> HeaderAnswer
     requires { 1 < length frame.now }
     ensures { told_header result ≡ second_byte frame.now }

@@ -1,0 +1,14 @@
+-- `record_check::checks::fits_side` meets its contract: the definition's three tests, at the widths and counts of the layout.
+-- Assumes nothing.
+use native.Mathlib.Omega.{arith}
+use borrow.Author.Rules.{rules}
+use Rattle.record_check.proofs.Tests.{side_is}
+use Rattle.record_check.proofs.checks.fits_side.Goals as goal
+
+pub returns : goal.returns
+returns c =
+    let b = c in
+    let l = b in
+    let a = l.args in
+    side_is a.mpeg1 a.two a.slow a.i l.layout_of-l.ensures.same (omega (arith, l.layout_of-l.ensures.begin_few)) b.no_shares-a.ensures
+    b.slots_fit-b.ensures

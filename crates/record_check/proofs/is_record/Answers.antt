@@ -1,0 +1,11 @@
+-- `record_check::is_record` meets its contract: the version and the rate of the header decide which test it is.
+-- Assumes nothing.
+use mathlib.Core.Path.{◌∙◌}
+use borrow.Author.Rules.{rules}
+use Rattle.standard.specs.Record.{is_record}
+use Rattle.record_check.proofs.is_record.Goals as goal
+
+pub returns : goal.returns
+returns c =
+    let m = c in
+    c.fits_record.ensures ∙ (λ j. is_record (m.is_mpeg1.ensures j) (c.is_slow.ensures j) m.args.r)
