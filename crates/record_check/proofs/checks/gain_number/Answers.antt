@@ -3,6 +3,7 @@
 use mathlib.Core.Path.{◌≡◌, refl, ap, ◌∙◌}
 use Prim.Native.Nat.{ℕ, ◌*◌, ◌/◌, ◌%◌}
 use native.Mathlib.Omega.{arith}
+use borrow.Author.Rules.{rules}
 use lib.Ieee.{binary32, to_bits}
 use denote.Floats.{passes}
 use Rattle.record_check.proofs.Gains.{gain_at, gain_nan, gain_none, no_nan}
@@ -52,7 +53,6 @@ returns-in-519 c = gain_at _ 7 refl (passes _ c.well_formed.0.1) (pattern _ _ c.
 pub returns-in_default : goal.returns-in_default
 returns-in_default c =
     let g = c.args.g in
-    let n = c.in_default.not-508 in
     let off : (k : ℕ) → (to_bits binary32 g / 2097152 ≡ k → ⊥) → to_bits binary32 g ≡ 2097152 * k → ⊥ = λ k h e. h (omega arith) in
-    gain_none g c.if-p-eq0.false (off 0x1fc n.0.0.0.0.0.0.1) (off 0x200 n.0.0.0.0.0.1) (off 0x202 n.0.0.0.0.1)
-    (off 0x204 n.0.0.0.1) (off 0x205 n.0.0.1) (off 0x206 n.0.1) (off 0x207 n.1)
+    gain_none g c.if-p-eq0.false (off 0x1fc (search rules)) (off 0x200 (search rules)) (off 0x202 (search rules)) (off 0x204 (search rules))
+    (off 0x205 (search rules)) (off 0x206 (search rules)) (off 0x207 (search rules))

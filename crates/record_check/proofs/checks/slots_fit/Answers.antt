@@ -21,7 +21,7 @@ returns-then-not-slot_fits c =
     let h : d.loop-i.i < length a.s = omega arith in
     sym (all_stop (slots_from a.mpeg1 a.slow a.n) (slot_test a.mpeg1 a.slow a.n) (slots-step a.mpeg1 a.slow a.n) past_record
     d.loop-i.invariant h
-    (sym c.slot_fits.ensures ∙ not-true _ c.if-not-slot_fits.true)) ∙ slots-are a.mpeg1 a.slow a.n a.s l
+    (sym c.slot_fits.ensures ∙ c.if-not-slot_fits.true)) ∙ slots-are a.mpeg1 a.slow a.n a.s l
 
 pub loop-i-preserved : goal.loop-i-preserved
 loop-i-preserved c =
@@ -30,7 +30,7 @@ loop-i-preserved c =
     let l : length a.s ≡ 4 = search rules in
     let h : d.loop-i.i < length a.s = omega arith in
     all_turn (slots_from a.mpeg1 a.slow a.n) (slot_test a.mpeg1 a.slow a.n) (slots-step a.mpeg1 a.slow a.n) past_record d.loop-i.invariant h
-    (sym c.slot_fits.ensures ∙ not-false _ c.if-not-slot_fits.false)
+    (sym c.slot_fits.ensures ∙ c.if-not-slot_fits.false)
 
 pub returns : goal.returns
 returns c =
