@@ -1,0 +1,15 @@
+-- `reorder::store_three` meets its contract. Assumes nothing.
+use native.Mathlib.Omega.{arith}
+use lib.ListN.{length-set}
+use borrow.Author.Rules.{rules}
+use Rattle.reorder.proofs.store_three.Goals as goal
+
+-- was the goal same-length
+-- same_length : tie.Need-same-length
+-- same_length c = search rules
+
+pub bounds-numbers-at-2 : goal.bounds-numbers-at-2
+bounds-numbers-at-2 c = simp length-set (omega arith)
+
+pub bounds-numbers-at-3 : goal.bounds-numbers-at-3
+bounds-numbers-at-3 c = simp length-set (omega arith)
