@@ -2,12 +2,8 @@
 -- Assumes nothing.
 use Rattle.standard.specs.Record.{absent}
 use Rattle.side_info.proofs.Fields.{zero_gain}
-use Rattle.side_info.proofs.record.absent_record.Statement.{statement}
-use Rattle.side_info.proofs.record.absent_record.Tie as tie
+use Rattle.side_info.proofs.record.absent_record.Goals as goal
 
-returns : tie.Need-returns
+pub returns : goal.returns
 unfolding absent
 returns c = rw zero_gain
-
-pub absent-record_spec : {M : Type 1} → statement M
-absent-record_spec = tie.close (tie.spec returns)

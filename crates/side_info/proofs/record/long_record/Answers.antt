@@ -8,25 +8,9 @@ use Rattle.standard.specs.Record.{long_of}
 use Rattle.standard.specs.declared.BlockType.TheVariants.{Long}
 use Rattle.side_info.specs.Parts.{common_of}
 use Rattle.side_info.proofs.Fields.{zero_gain, window_cut, window_last}
-use Rattle.side_info.proofs.record.long_record.Statement.{statement}
-use Rattle.side_info.proofs.record.long_record.Tie as tie
+use Rattle.side_info.proofs.record.long_record.Goals as goal
 
-cast-t7 : tie.Need-overflow-cast-t7
-cast-t7 c = search rules
-
-cast-t10 : tie.Need-overflow-cast-t10
-cast-t10 c = search rules
-
-cast-t13 : tie.Need-overflow-cast-t13
-cast-t13 c = search rules
-
-cast-t13-2 : tie.Need-overflow-cast-t13-2
-cast-t13-2 c = search rules
-
-cast-t10-2 : tie.Need-overflow-cast-t10-2
-cast-t10-2 c = search rules
-
-returns : tie.Need-returns
+pub returns : goal.returns
 unfolding long_of common_of
 returns c =
     λ mpeg1 s at e j.
@@ -46,6 +30,3 @@ returns c =
       scalefac_scale = k.scalefac_scale;
       count1table_select = k.count1table_select;
     }
-
-pub long-record_spec : {M : Type 1} → statement M
-long-record_spec = tie.close (tie.spec cast-t7 cast-t10 cast-t13 cast-t13-2 cast-t10-2 returns)

@@ -1,0 +1,18 @@
+-- `side_info::read_side_info` meets its contract: a header that no bytes read to is refused, and under another it is what follows.
+-- Assumes nothing.
+use borrow.Author.Rules.{rules}
+use borrow.Author.Tests.{not-true, not-false}
+use Rattle.side_info.proofs.Sides.{side_made_up, side_known}
+use Rattle.side_info.proofs.read_side_info.Goals as goal
+
+pub returns-then-not-is_header : goal.returns-then-not-is_header
+returns-then-not-is_header c =
+    let d = c in
+    let a = d.args in
+    c.no_side.ensures _ (side_made_up a.h a.frame.now d.is_header.ensures c.if-not-is_header.true)
+
+pub returns : goal.returns
+returns c =
+    let d = c in
+    let a = d.args in
+    rw (side_known a.h a.frame.now d.is_header.ensures c.if-not-is_header.false) c.side_under.ensures

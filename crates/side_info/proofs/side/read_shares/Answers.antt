@@ -1,0 +1,17 @@
+-- `side_info::side::read_shares` meets its contract. The loop's invariant, `SharesLoop`: the bits passed stand first, and then false.
+-- Assumes nothing.
+use Prim.Native.Nat.{◌-◌}
+use borrow.Author.Rules.{rules}
+use Rattle.side_info.proofs.Loops.{SharesLoop, shares_begin, shares_turn, shares_end}
+use Rattle.side_info.proofs.side.read_shares.Goals as goal
+
+pub loop-i-init : goal.loop-i-init
+loop-i-init c = shares_begin _ _ _
+
+pub loop-i-preserved : goal.loop-i-preserved
+loop-i-preserved c =
+    let d = c in
+    shares_turn d.loop-i.invariant c.bit-x.ensures c.loop-i-test.true d.requires.1
+
+pub returns : goal.returns
+returns c = shares_end c.loop-i.invariant c.loop-i-test.false

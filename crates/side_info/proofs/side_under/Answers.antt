@@ -1,0 +1,17 @@
+-- `side_info::side_under` meets its contract: what follows the header, by its parts.
+-- Assumes nothing.
+use borrow.Author.Rules.{rules}
+use Rattle.side_info.proofs.Sides.{header-small, by_parts}
+use Rattle.side_info.proofs.side_under.Goals as goal
+
+pub read_after-requires : goal.read_after-requires
+read_after-requires c = header-small _ c.header_size-from.ensures
+
+pub returns : goal.returns
+returns c =
+    let t = c in
+    let m = t in
+    let f = m in
+    let a = f.args in
+    rw (by_parts a.h a.frame.now f.header_size-from.ensures m.is_mpeg1-mpeg1.ensures t.is_two-two.ensures c.is_slow.ensures)
+    c.read_after.ensures

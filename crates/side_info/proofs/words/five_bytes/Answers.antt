@@ -1,0 +1,29 @@
+-- `side_info::words::five_bytes` meets its contract. The loop's invariant: the number is what the bits of the bytes passed spell.
+-- Assumes nothing.
+use mathlib.Core.Path.{◌≡◌}
+use Prim.Native.Nat.{◌*◌, ◌-◌, ◌≤◌}
+use native.Mathlib.Omega.{arith}
+use borrow.Author.Rules.{rules}
+use Rattle.standard.specs.Bits.{field_at}
+use Rattle.side_info.proofs.Cuts.{bytes-none, bytes-more, bytes_below, byte-below}
+use Rattle.side_info.proofs.words.five_bytes.Goals as goal
+
+pub loop-k-init : goal.loop-k-init
+loop-k-init c = (omega arith, bytes-none _ _)
+
+pub overflow_mul-v : goal.overflow_mul-v
+overflow_mul-v c = let d = c in omega (arith, bytes_below _ _ _ d.loop-k.invariant.1 c.loop-k-test.true)
+
+pub overflow_add-v : goal.overflow_add-v
+overflow_add-v c =
+    let d = c in
+    omega (arith, bytes_below _ _ _ d.loop-k.invariant.1 c.loop-k-test.true, byte-below _ _ c.one_byte-x.ensures)
+
+pub loop-k-preserved : goal.loop-k-preserved
+loop-k-preserved c = let d = c in (omega arith, bytes-more _ _ _ d.loop-k.invariant.1 c.one_byte-x.ensures)
+
+pub returns : goal.returns
+returns c =
+    let d = c in
+    let e : d.loop-k.k ≡ 5 = omega arith in
+    rw e at d.loop-k.invariant.1

@@ -1,0 +1,11 @@
+-- `side_info::words::word` meets its contract: the n bits stand among the 40 of five bytes, with so many bits after them.
+-- Assumes nothing.
+use borrow.Author.Rules.{rules}
+use Rattle.side_info.proofs.Cuts.{mask_pos, within}
+use Rattle.side_info.proofs.words.word.Goals as goal
+
+pub nonzero_rem-result-2 : goal.nonzero_rem-result-2
+nonzero_rem-result-2 c = let d = c in mask_pos d.args.n d.requires
+
+pub returns : goal.returns
+returns c = let d = c in within d.args.s.now d.args.at d.args.n d.requires c.five_bytes-v.ensures
