@@ -1,7 +1,7 @@
 -- Where a reader of factors stands: what is written, with what is left of the plan, is the whole answer. A part of the plan, were it one
 -- source or one group, is read by one law.
 use mathlib.Core.Path.{◌≡◌, refl, sym, ap, ◌∙◌, subst}
-use mathlib.Core.Bool.{Bool, true, false}
+use mathlib.Core.Bool.{false}
 use mathlib.Core.List.{List, [], ◌∷◌, ◌++◌}
 use Prim.Native.Nat.{ℕ, suc, ◌+◌, ◌-◌, ◌*◌, ◌<◌, ◌≤◌}
 use native.Mathlib.Nat.{add-zero}
@@ -9,10 +9,9 @@ use native.Mathlib.Numerals.{add-one}
 use native.Mathlib.Omega.{arith}
 use lib.ListN.{length, get_or, drop, set, replicate, length-set, length-append}
 use lib.Seq.{sets, length-sets, get_or-drop, drop-drop}
-use Rattle.standard.specs.Told.{pick}
-use Rattle.standard.specs.Bits.{bits, value, field_at}
-use Rattle.standard.specs.BitsLaws.{take-bits, drop_bits}
-use Rattle.standard.specs.Factors.{group, groups_from, sources_of, Source, shared, coded, plan_bits, factors_from, width_of, factor_by}
+use Rattle.standard.specs.Bits.{bits}
+use Rattle.standard.specs.BitsLaws.{drop_bits}
+use Rattle.standard.specs.Factors.{group, groups_from, sources_of, Source, plan_bits, factors_from, width_of, factor_by}
 use Rattle.standard.proofs.FactorsLaws.{source_small, group-length, group-small, groups_small, plan-bits_cons, plan-bits_append, factors_cons, factors_length, factors_append, factors_bits}
 use Rattle.scale_factors.specs.Groups.{source_in, filled, Group, Fit}
 use Rattle.standard.specs.declared.Plan.{Plan}

@@ -1,5 +1,5 @@
 -- Thirteen bands of three windows as one list, and that it undoes the definition's bands.
-use Rattle.std.specs.Prelude.{◌≡◌, refl, List, [], ◌∷◌, ℕ, zero, suc, ◌+◌, ◌*◌, ◌/◌, ◌%◌, ◌<◌, length, get_or, take, drop}
+use Rattle.std.specs.Prelude.{◌≡◌, refl, List, [], ◌∷◌, ℕ, zero, suc, ◌+◌, ◌*◌, ◌/◌, ◌%◌, ◌<◌, length, get_or, drop}
 use Rattle.std.proofs.Common.{sym, ap, ◌∙◌, zero-add, add-zero, arith, get_or-take, get_or-drop}
 use Rattle.standard.specs.Factors.{bands_of}
 use Rattle.standard.proofs.FactorsLaws.{bands_at}

@@ -1,0 +1,10 @@
+-- `scale_factors::long_places` meets its contract: there is room for all of the part that is put, and zeros are left behind it.
+-- Assumes nothing.
+use native.Mathlib.Omega.{arith}
+use Rattle.scale_factors.proofs.Plans.{first-put}
+use Rattle.scale_factors.proofs.long_places.Goals as goal
+
+pub returns : goal.returns
+returns c =
+    let start = c in
+    first-put start.args.fs 22 start.args.n (omega arith) (omega (arith, start.requires)) c.put.ensures
