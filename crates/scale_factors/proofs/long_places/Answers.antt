@@ -6,5 +6,4 @@ use Rattle.scale_factors.proofs.long_places.Goals as goal
 
 pub returns : goal.returns
 returns c =
-    let start = c in
-    first-put start.args.fs 22 start.args.n (omega arith) (omega (arith, start.requires)) c.put.ensures
+    first-put c.args.fs 22 c.args.n (omega arith) (omega (arith, c.requires)) c.put.ensures

@@ -6,20 +6,16 @@ use Rattle.scale_factors.proofs.plan_bits.Goals as goal
 
 pub overflow_add-result : goal.overflow_add-result
 overflow_add-result c =
-    let start = c in
-    omega (arith, four_bits start.args.p)
+    omega (arith, four_bits c.args.p)
 
 pub overflow_add-result-2 : goal.overflow_add-result-2
 overflow_add-result-2 c =
-    let start = c in
-    omega (arith, four_bits start.args.p)
+    omega (arith, four_bits c.args.p)
 
 pub overflow_add-result-3 : goal.overflow_add-result-3
 overflow_add-result-3 c =
-    let start = c in
-    omega (arith, four_bits start.args.p)
+    omega (arith, four_bits c.args.p)
 
 pub returns : goal.returns
 returns c =
-    let start = c in
-    omega (arith, four_bits start.args.p)
+    omega (arith, four_bits c.args.p)

@@ -20,9 +20,6 @@ byte s at width v h e =
     let m : 2 ^ min width 16 ≤ 2 ^ 5 = pow_mono k in
     omega (arith, field_at_lt s at (min width 16))
 
-pub bounds-old-i : goal.bounds-old-i
-bounds-old-i c = omega (arith, c.requires.0 c.if-shares.true)
-
 pub returns-then-shares : goal.returns-then-shares
 unfolding pick
 returns-then-shares c =

@@ -5,7 +5,7 @@ use mathlib.Core.Bool.{Bool}
 use native.Mathlib.Omega.{arith}
 use lib.ListN.{replicate}
 use Rattle.standard.specs.Factors.{sources_of, plan_bits}
-use Rattle.standard.proofs.FactorsLaws.{few_factors, plan-small, room}
+use Rattle.standard.proofs.FactorsLaws.{plan-small}
 use Rattle.standard.specs.declared.Plan.{Plan}
 use Rattle.scale_factors.specs.Groups.{filled, old_for}
 use Rattle.scale_factors.proofs.Plans.{plan-fit, long-read, short_read}
@@ -14,32 +14,16 @@ use Rattle.scale_factors.proofs.read_scale_factors.Goals as goal
 
 pub read_plan-fs-requires : goal.read_plan-fs-requires
 read_plan-fs-requires c =
-    let start = c in
-    plan-fit start.args.g start.args.r c.plan_of-plan.ensures start.args.at (omega (arith, start.ranges.at))
+    plan-fit c.args.g c.args.r c.plan_of-plan.ensures c.args.at (omega (arith, c.ranges.at))
 
 pub read_plan-fs-requires-else-share : goal.read_plan-fs-requires-else-share
 read_plan-fs-requires-else-share c =
-    let start = c in
-    plan-fit start.args.g start.args.r c.plan_of-plan.ensures start.args.at (omega (arith, start.ranges.at))
-
-pub long_places-long-requires : goal.long_places-long-requires
-long_places-long-requires c =
-    let shaped = c in
-    let g = shaped.args.g in
-    omega (arith, c.long_count-n.ensures, room g.mpeg1 shaped.shape_of-shape.result)
-
-pub short_factors-short-requires : goal.short_factors-short-requires
-short_factors-short-requires c =
-    let counted = c in
-    let shaped = counted in
-    let g = shaped.args.g in
-    omega (arith, counted.long_count-n.ensures, few_factors g.mpeg1 shaped.shape_of-shape.result)
+    plan-fit c.args.g c.args.r c.plan_of-plan.ensures c.args.at (omega (arith, c.ranges.at))
 
 pub plan_bits-requires : goal.plan_bits-requires
 plan_bits-requires c =
-    let made = c in
-    let a = made.args in
-    omega (arith, ap (λ (p : Plan). plan_bits (sources_of p)) made.plan_of-plan.ensures, plan-small a.g a.r)
+    let a = c.args in
+    omega (arith, ap (λ (p : Plan). plan_bits (sources_of p)) c.plan_of-plan.ensures, plan-small a.g a.r)
 
 pub returns : goal.returns
 returns c =

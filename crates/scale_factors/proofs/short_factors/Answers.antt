@@ -26,13 +26,6 @@ none-short fs n AllLong e = refl
 none-short fs n AllShort e = absurd (omega arith)
 none-short fs n LongThenShort e = absurd (omega arith)
 
-pub short_places-requires : goal.short_places-requires
-short_places-requires c =
-    let start = c in
-    let count = c.short_count-count.ensures in
-    let from = c.short_from.ensures in
-    (omega arith, omega (arith, count, start.requires), omega (arith, count, from, start.requires, short_near start.args.shape))
-
 pub returns-then-count-eq0 : goal.returns-then-count-eq0
 returns-then-count-eq0 c =
     let a = c.args in
@@ -40,14 +33,12 @@ returns-then-count-eq0 c =
 
 pub returns : goal.returns
 returns c =
-    let counted = c in
-    let start = counted in
-    let a = start.args in
-    let count = counted.short_count-count.ensures in
+    let a = c.args in
+    let count = c.short_count-count.ensures in
     let from = c.short_from.ensures in
     let many : length a.fs ≡ 36 = search rules in
     c.flat.ensures
-    ∙ bands_back a.fs a.n counted.short_count-count.result c.short_from.result many
-    (omega (arith, count, start.requires)) (omega (arith, count, from, start.requires, short_near a.shape))
+    ∙ bands_back a.fs a.n c.short_count-count.result c.short_from.result many
+    (omega (arith, count, c.requires)) (omega (arith, count, from, c.requires, short_near a.shape))
     c.short_places.ensures
     ∙ (λ j. places a.fs a.n (count j) (from j))

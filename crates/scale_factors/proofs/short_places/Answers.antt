@@ -8,7 +8,6 @@ use Rattle.scale_factors.proofs.short_places.Goals as goal
 
 pub returns : goal.returns
 returns c =
-    let start = c in
-    let a = start.args in
+    let a = c.args in
     c.bands.ensures
-    ∙ ap (bands_of 13) (part_put a.fs a.n a.end (omega (arith, start.requires)) 39 a.from c.put.ensures (omega (arith, start.requires)))
+    ∙ ap (bands_of 13) (part_put a.fs a.n a.end (omega (arith, c.requires)) 39 a.from c.put.ensures (omega (arith, c.requires)))
