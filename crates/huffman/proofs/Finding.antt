@@ -8,7 +8,7 @@ use native.Mathlib.Omega.{arith}
 use borrow.Author.Tests.{eqb-false}
 use lib.Dec.{eqb}
 use lib.IntN.{ℤ}
-use lib.ListN.{length, get_or, take}
+use lib.ListN.{length, get_or}
 use Rattle.standard.specs.Bits.{one, bits, field_at}
 use Rattle.standard.specs.Codes.{decode, word_of}
 use Rattle.standard.specs.Numbers.{two_of, pair_of}
@@ -16,7 +16,7 @@ use Rattle.standard.specs.declared.Refusal.TheVariants.{PairOverrun}
 use Rattle.standard.specs.declared.Codeword.TheVariants.{Coded}
 use Rattle.standard.specs.declared.Pair.{Pair}
 use Rattle.standard.specs.declared.Pair.TheVariants.{Two, NoPair}
-use Rattle.huffman.specs.Cells.{size, cells}
+use Rattle.huffman.specs.Cells.{cells}
 use Rattle.huffman.specs.Ahead.{Ahead}
 use Rattle.huffman.specs.Found.{root_of, has_fifteen, FoundIn, TableAs}
 use Rattle.huffman.specs.Owns.{Owns}
@@ -24,7 +24,7 @@ use Rattle.huffman.specs.Signed.{held}
 use Rattle.huffman.proofs.Cutting.{bits-ahead}
 use Rattle.huffman.proofs.Reading.{known_word, word_owns}
 use Rattle.huffman.proofs.Owning.{pair-owns}
-use Rattle.huffman.proofs.Nodes.{size_is, Stands, stands_first, stands_some, stands_narrow, stands_near, stands_room, stands_turn, flag_at}
+use Rattle.huffman.proofs.Nodes.{size_is, Stands, stands_first, stands_some, stands_narrow, stands_near, stands_room, flag_at}
 
 -- where the cell of a step stands in the table
 abbrev pub place : ℕ → ℕ → ℕ → ℕ

@@ -2,19 +2,19 @@
 use mathlib.Core.Path.{◌≡◌, refl, sym, ap, subst, ◌∙◌}
 use mathlib.Core.Bool.{Bool, true, false, ◌&&◌, beq}
 use mathlib.Core.List.{List, [], ◌∷◌, map}
-use Prim.Native.Nat.{ℕ, zero, suc, ◌+◌, ◌-◌, ◌*◌, ◌/◌, ◌%◌, ◌^◌, ◌≤◌, ◌<◌}
+use Prim.Native.Nat.{ℕ, zero, suc, ◌+◌, ◌-◌, ◌*◌, ◌/◌, ◌%◌, ◌^◌, ◌<◌}
 use native.Mathlib.Numerals.{add-one, add-two, add-three}
 use native.Mathlib.Omega.{arith}
-use lib.IntN.{ℤ, pos}
+use lib.IntN.{ℤ}
 use borrow.Author.Tests.{ltb-true, eqb-true}
 use lib.Dec.{ltb, eqb}
 use lib.ListN.{length, get_or, drop, set}
 use lib.Seq.{get_or-drop, sets}
 use Rattle.standard.specs.RowsLaws.{every}
 use Rattle.standard.specs.Told.{pick}
-use Rattle.standard.specs.ToldLaws.{clash, never, both_of, either_way}
+use Rattle.standard.specs.ToldLaws.{clash, never, both_of}
 use Rattle.standard.specs.Bits.{bit_at, bits, one}
-use Rattle.standard.specs.BitsLaws.{drop_bits, length-bits}
+use Rattle.standard.specs.BitsLaws.{drop_bits}
 use Rattle.standard.specs.Codes.{Entry, entry, low_bits, quad, codes, starts, first, begun, decode, word_of, published, table_a, table_b}
 use Rattle.standard.proofs.CodesLaws.{In, here, there}
 use Rattle.standard.specs.Numbers.{magnitude_of, sign_of, signed, further, then_sign, number_in, two_last, two_first, two_of, quad_last, quad_first, quad_word, quad_of, quad_table}
@@ -31,7 +31,7 @@ use Rattle.standard.specs.declared.Quad.TheVariants.{Four, Dropped, NoQuad}
 use Rattle.huffman.specs.Ahead.{Ahead}
 use Rattle.huffman.specs.Found.{root_of, FoundIn}
 use Rattle.huffman.specs.Owns.{Owns}
-use Rattle.huffman.specs.Cells.{quads_at, size, cells}
+use Rattle.huffman.specs.Cells.{quads_at, cells}
 use Rattle.huffman.specs.Signed.{with_signs, spread, branch, digit, held_codes, held}
 use Rattle.huffman.proofs.Nodes.{size_is}
 use Rattle.huffman.proofs.Reading.{word_owns}
@@ -197,6 +197,7 @@ abbrev as_digits : Entry → Quad
 as_digits (entry r w) = Four (digit (r / 27)) (digit (r / 9 % 3)) (digit (r / 3 % 3)) (digit (r % 3)) (length w)
 
 agree_at : (f g : Entry → Quad) (es : List Entry) → map f es ≡ map g es → (e : Entry) → In e es → f e ≡ g e
+agree_at f g [] p e i = elim i [ ]
 agree_at f g (a ∷ es) p e here = let h : f a ≡ g a = cc in h
 agree_at f g (a ∷ es) p e (there i) = let h : map f es ≡ map g es = cc in agree_at f g es h e i
 
@@ -205,6 +206,7 @@ below81 (entry r w) = ltb r 81
 
 every_in : (f : Entry → Bool) (es : List Entry) → every f es ≡ true → (e : Entry) → In e es → f e ≡ true
 unfolding every
+every_in f [] h e i = elim i [ ]
 every_in f (a ∷ es) h e here = (both_of (f a) _ h).0
 every_in f (a ∷ es) h e (there i) = every_in f es (both_of (f a) _ h).1 e i
 

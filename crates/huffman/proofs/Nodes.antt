@@ -10,7 +10,6 @@ use native.Mathlib.Omega.{arith}
 use borrow.Author.Tests.{ltb-true, leb-true, eqb-true, le-ltb}
 use lib.Dec.{ltb, leb, eqb}
 use lib.ListN.{length, get_or, take, drop}
-use lib.Pow.{pow_mono}
 use lib.Seq.{get_or-drop}
 use Rattle.standard.specs.ToldLaws.{never, both_of}
 use Rattle.standard.specs.RowsLaws.{every, every-at}
@@ -21,7 +20,7 @@ use Rattle.standard.proofs.CodesLaws.{after, inner, lone, more, decode-bit, deco
 use Rattle.standard.specs.declared.Codeword.{Codeword}
 use Rattle.standard.specs.declared.Codeword.TheVariants.{Coded, Cut, Alien}
 use Rattle.huffman.specs.Cells.{roots, silent_link, size, cells}
-use Rattle.huffman.specs.Found.{has_fifteen, root_of}
+use Rattle.huffman.specs.Found.{has_fifteen}
 use Rattle.huffman.specs.Signed.{with_signs, spread, branch, held_codes, held}
 
 pub size_is : length cells ≡ size

@@ -8,16 +8,15 @@ use lib.Dec.{eqb}
 use lib.Pow.{shr_lt, pow_mono}
 use lib.IntN.{ℤ, pos}
 use Rattle.standard.specs.Bits.{bit_at, field_at, bits, value, value_from}
-use Rattle.standard.specs.BitsLaws.{field_at_one, one-is, field_at_lt}
+use Rattle.standard.specs.BitsLaws.{field_at_one, one-is}
 use Rattle.standard.specs.Numbers.{magnitude_of, sign_of, signed, number_in, two_of}
 use Rattle.standard.specs.declared.Refusal.TheVariants.{PairOverrun}
 use Rattle.standard.specs.declared.Magnitude.TheVariants.{Sized, Unsized}
-use Rattle.standard.specs.declared.Number.{Number}
 use Rattle.standard.specs.declared.Number.TheVariants.{Whole, Broken}
 use Rattle.standard.specs.declared.Pair.TheVariants.{Two, NoPair}
 use Rattle.huffman.specs.Owns.{Owns}
 use Rattle.huffman.specs.Ahead.{Ahead}
-use Rattle.huffman.proofs.Owning.{magnitude_plain, magnitude_escaped, signed-none, signed-some, number_owns, two_owns}
+use Rattle.huffman.proofs.Owning.{magnitude_escaped, signed-none, signed-some, number_owns, two_owns}
 
 -- the bit of a word after the first so many
 bit_is : (s : List ℕ) (p word gone : ℕ) → Ahead word s p → gone < 57 → eqb ((word * 2 ^ gone) % 2 ^ 64 / 2 ^ 63) 1 ≡ bit_at s (p + gone)

@@ -1,28 +1,22 @@
 -- A number, two and a pair own the bits of their parts, one part after the other.
-use mathlib.Core.Path.{◌≡◌, refl, sym, ap, subst, ◌∙◌}
-use mathlib.Core.Bool.{Bool, true, false}
-use mathlib.Core.List.{List, [], ◌∷◌}
-use Prim.Native.Nat.{ℕ, zero, suc, ◌+◌, ◌-◌, ◌*◌, ◌/◌, ◌%◌, ◌^◌, ◌≤◌, ◌<◌}
+use mathlib.Core.Path.{◌≡◌, refl, ap, subst, ◌∙◌}
+use mathlib.Core.Bool.{Bool}
+use mathlib.Core.List.{List}
+use Prim.Native.Nat.{ℕ, zero, suc, ◌+◌, ◌-◌, ◌/◌, ◌%◌, ◌≤◌, ◌<◌}
 use native.Mathlib.Decide.{dec_le}
 use native.Mathlib.Omega.{arith}
 use borrow.Author.Tests.{le-leb, lt-leb, eq-eqb, ne_eqb}
-use lib.Dec.{leb, eqb}
 use lib.IntN.{ℤ, pos}
 use lib.ListN.{length, take, drop}
-use Rattle.standard.specs.Told.{pick}
 use Rattle.standard.specs.ToldLaws.{picked, passed}
-use Rattle.standard.specs.Bits.{bit_at, bits, value, field_at, between}
+use Rattle.standard.specs.Bits.{bit_at, bits, value, field_at}
 use Rattle.standard.specs.BitsLaws.{drop_bits, take-bits, length-bits}
 use Rattle.standard.specs.Codes.{escape_width, word_of}
 use Rattle.standard.specs.Numbers.{escaped, magnitude_of, sign_of, signed, further, then_sign, number_in, two_last, two_first, two_of, pair_after, pair_word, pair_of}
 use Rattle.standard.specs.declared.Refusal.TheVariants.{PairOverrun}
-use Rattle.standard.specs.declared.Codeword.{Codeword}
 use Rattle.standard.specs.declared.Codeword.TheVariants.{Coded, Cut}
-use Rattle.standard.specs.declared.Magnitude.{Magnitude}
 use Rattle.standard.specs.declared.Magnitude.TheVariants.{Sized, Unsized}
-use Rattle.standard.specs.declared.Number.{Number}
 use Rattle.standard.specs.declared.Number.TheVariants.{Whole, Broken}
-use Rattle.standard.specs.declared.Pair.{Pair}
 use Rattle.standard.specs.declared.Pair.TheVariants.{Two, NoPair}
 use Rattle.huffman.specs.Owns.{Owns}
 

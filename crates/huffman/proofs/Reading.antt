@@ -1,15 +1,14 @@
 -- A codeword needs its own bits and no others: what some bits read as, fewer read as too, as long as the codeword is among them; and where
 -- it is not, the bits end within a codeword.
 use mathlib.Core.Path.{◌≡◌, refl, sym, ap, ◌∙◌}
-use mathlib.Core.Bool.{Bool, true, false, ◌&&◌}
+use mathlib.Core.Bool.{Bool, true, false}
 use mathlib.Core.List.{List, [], ◌∷◌}
-use Prim.Native.Nat.{ℕ, zero, suc, ◌+◌, ◌-◌, ◌<◌, ◌≤◌}
+use Prim.Native.Nat.{ℕ, zero, suc, ◌-◌, ◌<◌, ◌≤◌}
 use native.Mathlib.Omega.{arith}
 use borrow.Author.Tests.{eq-eqb}
 use Rattle.standard.specs.ToldLaws.{never, both_of}
 use Rattle.standard.specs.Bits.{bit_at, bits, between}
-use lib.ListN.{length, get_or, get_or-eq_default, get_or-append}
-use lib.Dec.{eqb}
+use lib.ListN.{length, get_or-eq_default, get_or-append}
 use Rattle.standard.specs.RowsLaws.{every, every-at}
 use Rattle.standard.specs.Codes.{Entry, entry, decode, low_bits, pair, quad, silent, table1, table2, table3, table5, table6, table7, table8, table9, table10, table11, table12, table13, table15, table16, table24, table_a, table_b, codes, published, word_of}
 use Rattle.standard.proofs.CodesLaws.{after, open_all, more, whole, decode-bit, decode-end, decode-leaf, published-whole}

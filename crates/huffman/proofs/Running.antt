@@ -14,7 +14,7 @@ use Rattle.standard.specs.ToldLaws.{picked, passed}
 use Rattle.standard.specs.Bits.{bits}
 use Rattle.standard.specs.BitsLaws.{drop_bits}
 use Rattle.standard.specs.Codes.{word_of}
-use Rattle.standard.specs.Numbers.{Numbers, halted, got, prepend, then_pairs, pairs, pair_of, table_at}
+use Rattle.standard.specs.Numbers.{halted, got, prepend, then_pairs, pairs, pair_of, table_at}
 use Rattle.standard.specs.declared.Refusal.TheVariants.{PairOverrun}
 use Rattle.standard.specs.declared.Pair.{Pair}
 use Rattle.standard.specs.declared.Pair.TheVariants.{Two, NoPair}

@@ -1,5 +1,5 @@
 -- Pairs read one after the other with no look at where their bits end.
-use Rattle.std.specs.Prelude.{◌≡◌, List, [], ◌∷◌, ℕ, zero, suc, ◌+◌, ◌-◌, ◌*◌, ◌≤◌, ◌<◌, ℤ, length, take, drop}
+use Rattle.std.specs.Prelude.{◌≡◌, List, [], ◌∷◌, ℕ, suc, ◌+◌, ◌-◌, ◌*◌, ◌≤◌, ◌<◌, ℤ, length, take, drop}
 use Rattle.standard.specs.Sizes.{per_slot}
 use Rattle.standard.specs.Codes.{word_of}
 use Rattle.standard.specs.Numbers.{pair_of}

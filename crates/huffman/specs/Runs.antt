@@ -1,6 +1,6 @@
 -- What is left in the numbers that are lent for a slot. q is what is read by the definition, out₀ and out are
 -- the numbers before and after it.
-use Rattle.std.specs.Prelude.{◌≡◌, Bool, List, ℕ, ◌*◌, ◌≤◌, ℤ, length, take, drop}
+use Rattle.std.specs.Prelude.{◌≡◌, Bool, List, ℕ, ◌≤◌, ℤ, length, take, drop}
 use Rattle.standard.specs.Sizes.{per_slot}
 use Rattle.standard.specs.Numbers.{Numbers, halted, got}
 use Rattle.huffman.specs.declared.HuffmanAnswer.{HuffmanAnswer}

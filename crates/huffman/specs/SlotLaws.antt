@@ -1,6 +1,6 @@
 -- No two answers say the same; what a slot's numbers come to by how many numbers are lent and how many pairs its record has; and a refused slot
 -- leaves the lent numbers as they were.
-use Rattle.std.specs.Prelude.{◌≡◌, Bool, List, ℕ, ◌≤◌, ◌<◌, ℤ, length}
+use Rattle.std.specs.Prelude.{◌≡◌, Bool, List, ◌≤◌, ◌<◌, ℤ, length}
 use Rattle.std.proofs.Common.{sym, ap, ◌∙◌, lt-ltb, le-ltb}
 use Rattle.standard.specs.ToldLaws.{clash, picked, passed}
 use Rattle.standard.proofs.RefusalsLaws.{one-reason}

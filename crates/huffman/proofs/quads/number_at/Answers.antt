@@ -8,9 +8,7 @@ use mir.Syntax.{w32}
 use mir.Val.{SFits, to_z, of_z}
 use mir.ValLaws.{to_z_pos, to_z-of_z}
 use Rattle.huffman.specs.Signed.{digit}
-use borrow.Author.Rules.{rules}
-use Rattle.huffman.proofs.quads.number_at.Statement.{statement}
-use Rattle.huffman.proofs.quads.number_at.Tie as tie
+use Rattle.huffman.proofs.quads.number_at.Goals as goal
 
 less_pos : (n : ℕ) → n < 3 → pos n -ℤ pos 1 ≡ digit n
 unfolding digit
@@ -28,21 +26,8 @@ digit-fits zero = record { sfits = omega arith }
 digit-fits (suc zero) = record { sfits = omega arith }
 digit-fits (suc (suc n)) = record { sfits = omega arith }
 
-mul-result : tie.Need-overflow-mul-result
-mul-result c = search rules
+pub overflow_sub-result : goal.overflow_sub-result
+overflow_sub-result c = let n = get_or c.args.t.now c.args.i 0 in subst (SFits w32) (sym (less_one n c.requires.1)) (digit-fits n)
 
-shared-slice-read-result : tie.Need-shared-slice-read-result
-shared-slice-read-result c = search rules
-
-cast-result : tie.Need-overflow-cast-result
-cast-result c = search rules
-
-sub-result : tie.Need-overflow-sub-result
-sub-result c = let n = get_or c.before.args.t.now c.before.args.i 0 in subst (SFits w32) (sym (less_one n c.before.requires.1)) (digit-fits n)
-
-returns : tie.Need-returns
-returns c = let n = get_or c.before.args.t.now c.before.args.i 0 in ap (λ (z : ℤ). to_z w32 (of_z w32 z)) (less_one n c.before.requires.1) ∙ to_z-of_z w32 (digit n) (digit-fits n)
-
-pub number_at_spec : {M : Type 1} → statement M
-number_at_spec =
-    tie.close (tie.spec mul-result shared-slice-read-result cast-result sub-result returns)
+pub returns : goal.returns
+returns c = let n = get_or c.args.t.now c.args.i 0 in ap (λ (z : ℤ). to_z w32 (of_z w32 z)) (less_one n c.requires.1) ∙ to_z-of_z w32 (digit n) (digit-fits n)

@@ -1,6 +1,6 @@
 -- `huffman::values::escaped` meets its contract: the second number stands after the first. Assumes nothing.
 use mathlib.Core.Path.{◌≡◌, sym, subst}
-use Prim.Native.Nat.{ℕ, ◌+◌}
+use Prim.Native.Nat.{◌+◌}
 use native.Mathlib.Omega.{arith}
 use lib.IntN.{ℤ}
 use mir.Syntax.{w32}
@@ -11,26 +11,13 @@ use Rattle.standard.specs.declared.Pair.TheVariants.{Two, NoPair}
 use Rattle.huffman.specs.Owns.{Owns}
 use Rattle.huffman.proofs.Numerals.{two_is}
 use borrow.Author.Rules.{rules}
-use Rattle.huffman.proofs.values.escaped.Statement.{statement}
-use Rattle.huffman.proofs.values.escaped.Tie as tie
+use Rattle.huffman.proofs.values.escaped.Goals as goal
 
-number-requires : tie.Need-number-requires
-number-requires c κs = search rules
-
-add-number : tie.Need-overflow-add-number
-add-number c = search rules
-
-number-requires-2 : tie.Need-number-requires-2
-number-requires-2 c κs = search rules
-
-add-t8 : tie.Need-overflow-add-t8
-add-t8 c = search rules
-
-returns : tie.Need-returns
+pub returns : goal.returns
 returns c =
-    let a = c.before.before.before.before.before.before.before.args in
-    let m = c.before.before.before.before.before.before.number in
-    let n = c.before.before.before.before.number2 in
+    let a = c.args in
+    let m = c.number-a in
+    let n = c.number-b in
     let k : to_z w32 (of_z w32 m.result.value) ≡ m.result.value = search rules in
     let l : to_z w32 (of_z w32 n.result.value) ≡ n.result.value = search rules in (
       (λ s p e.
@@ -39,6 +26,3 @@ returns c =
           (two_is a.width a.x a.y m.result.used n.result.used m.result.value n.result.value s p a.gone (m.ensures.0 s p e) (n.ensures.0 s p e)))),
       omega (arith, m.ensures.1, n.ensures.1),
     )
-
-pub escaped-spec : {M : Type 1} → statement M
-escaped-spec = tie.close (tie.spec number-requires add-number number-requires-2 add-t8 returns)
