@@ -1,0 +1,182 @@
+-- `slots_from` meets its contract. The loop's invariant: what the slots before the k-th came to is answered, and the rest of the definition
+-- remains. Assumes nothing.
+use mathlib.Core.Path.{◌≡◌, refl, sym, ap, ◌∙◌}
+use Prim.Native.Nat.{ℕ, ◌+◌, ◌-◌, ◌*◌, ◌≤◌, ◌<◌}
+use native.Mathlib.Omega.{arith}
+use borrow.Author.Rules.{rules}
+use lib.ListN.{length}
+use Rattle.standard.specs.Header.{granules, channel_count}
+use Rattle.standard.proofs.SideLaws.{four_slots}
+use Rattle.standard.specs.Record.{past_record}
+use Rattle.frame.proofs.Turns.{Turning, turning_begin, turning_part, turning_end, record_at_lem, part_long, four_at_most, some_channels}
+use Rattle.frame.proofs.frame_slots.slots_from.Goals as goal
+
+-- was the goal slice-bounds-read-slot-start
+-- part-read-slot-start : tie.Need-slice-bounds-read-slot-start invariant-loop decreases-loop
+-- part-read-slot-start c = omega arith
+
+-- was the goal slice-bounds-read-slot-end
+-- part-read-slot-end : tie.Need-slice-bounds-read-slot-end invariant-loop decreases-loop
+-- part-read-slot-end c =
+--     omega (
+--       arith,
+--       c.before.before.before.before.before.loop.invariant.0,
+--       c.before.before.before.before.before.loop.invariant.3.room,
+--       c.before.before.before.before.before.loop.invariant.3.long,
+--       four_at_most
+--           c.before.before.before.before.before.before.before.before.before.before.args.h,
+--     )
+
+-- was the goal same-length
+-- same_length : tie.Need-same-length invariant-loop decreases-loop
+-- same_length c = c.before.loop.invariant.3.long
+
+pub channel_count-channels-requires : goal.channel_count-channels-requires
+channel_count-channels-requires c = tt
+
+pub granules-requires : goal.granules-requires
+granules-requires c = tt
+
+pub overflow_mul-n : goal.overflow_mul-n
+overflow_mul-n c = rw (c.granules.ensures, c.channel_count-channels.ensures) (record { fits = omega (arith, four_at_most c.args.h) })
+
+pub lacking_slots-answers-requires : goal.lacking_slots-answers-requires
+lacking_slots-answers-requires c = tt
+
+pub loop-k-init : goal.loop-k-init
+loop-k-init c =
+    (
+  (λ j. c.granules.ensures j * c.channel_count-channels.ensures j),
+  c.channel_count-channels.ensures,
+  omega arith,
+  turning_begin _ _ _ _ _ c.requires.0 c.lacking_slots-answers.ensures,
+)
+
+pub offset_bounds-i-k : goal.offset_bounds-i-k
+offset_bounds-i-k c = omega (arith, four_at_most c.args.h)
+
+pub bounds-i-k : goal.bounds-i-k
+bounds-i-k c = omega (arith, four_at_most c.args.h)
+
+pub mate_of-m-requires : goal.mate_of-m-requires
+mate_of-m-requires c =
+    let o = c in
+    let h = o.args.h in
+    (omega (arith, o.loop-k.invariant.0, four_at_most h), omega (arith, o.loop-k.invariant.1, some_channels h))
+
+pub setting_of-g-requires : goal.setting_of-g-requires
+setting_of-g-requires c = omega (arith, c.loop-k.invariant.0)
+
+pub overflow_mul-from : goal.overflow_mul-from
+overflow_mul-from c =
+    omega (
+      arith,
+      c.loop-k.invariant.0,
+      four_at_most
+          c.args.h,
+    )
+
+pub overflow_add-end : goal.overflow_add-end
+overflow_add-end c =
+    omega (
+      arith,
+      c.loop-k.invariant.0,
+      four_at_most
+          c.args.h,
+    )
+
+pub offset_bounds-numbers-from : goal.offset_bounds-numbers-from
+offset_bounds-numbers-from c =
+    omega (
+      arith,
+      c.loop-k.invariant.0,
+      four_at_most
+          c.args.h,
+    )
+
+pub slice_bounds-read_slot-count : goal.slice_bounds-read_slot-count
+slice_bounds-read_slot-count c =
+    omega (
+      arith,
+      c.loop-k.invariant.0,
+      four_at_most
+          c.args.h,
+    )
+
+pub read_slot-a-requires : goal.read_slot-a-requires
+read_slot-a-requires c =
+    let a = c.args in
+    let o = c.loop-k in
+    let q = record_at_lem a.h a.i c.requires.1 o.k
+    (omega (arith, o.invariant.0)) past_record in (
+      part_long o.k o.numbers (omega (arith, o.invariant.0, o.invariant.3.room, o.invariant.3.long, four_at_most a.h)),
+      q.pairs-le,
+      q.length-lt,
+      omega (arith, o.invariant.3.near, o.invariant.0, four_at_most a.h),
+    )
+
+pub offset_bounds-answers-k : goal.offset_bounds-answers-k
+offset_bounds-answers-k c =
+    omega (
+      arith,
+      c.loop-k.invariant.0,
+      four_at_most
+          c.args.h,
+    )
+
+pub bounds-answers-k : goal.bounds-answers-k
+bounds-answers-k c =
+    omega (
+      arith,
+      c.loop-k.invariant.0,
+      four_at_most
+          c.args.h,
+    )
+
+pub overflow_cast-at : goal.overflow_cast-at
+overflow_cast-at c =
+    let a = c.args in
+    let o = c.loop-k in
+    let q = record_at_lem a.h a.i
+    c.requires.1 o.k
+    (omega (arith, o.invariant.0)) past_record in
+    omega (arith, q.length-lt)
+
+pub overflow_add-at : goal.overflow_add-at
+overflow_add-at c =
+    let a = c.args in
+    let o = c.loop-k in
+    let q = record_at_lem a.h a.i
+    c.requires.1 o.k
+    (omega (arith, o.invariant.0)) past_record in
+    omega (arith, q.length-lt, o.invariant.3.near, o.invariant.0, four_at_most a.h)
+
+pub overflow_add-k : goal.overflow_add-k
+overflow_add-k c =
+    omega (
+      arith,
+      c.loop-k.invariant.0,
+      four_at_most
+          c.args.h,
+    )
+
+pub loop-k-preserved : goal.loop-k-preserved
+loop-k-preserved c =
+    let a = c.args in
+    let o = c.loop-k in
+    let q = record_at_lem a.h a.i
+    c.requires.1 o.k
+    (omega (arith, o.invariant.0)) past_record in (
+      o.invariant.0,
+      o.invariant.1,
+      omega arith,
+      turning_part _ _ _ _ _ _ _ _ o.invariant.3
+          c.requires.1 _ _ _ _ _ _
+          (omega (arith, o.invariant.0)) q c.setting_of-g.ensures
+          (rw o.invariant.1 at c.mate_of-m.ensures) c.read_slot-a.ensures,
+    )
+
+pub returns : goal.returns
+returns c =
+    turning_end _ _ _ _ _ _ _ _ c.loop-k.invariant.3 (four_slots _ _ c.requires.1)
+    (omega (arith, c.loop-k.invariant.0))

@@ -1,0 +1,18 @@
+-- `slots_from` meets its contract. The loop's invariant: what the slots before the k-th came to is answered, and the rest of the definition
+-- remains. Assumes nothing.
+use mathlib.Core.Path.{◌≡◌, refl, sym, ap, ◌∙◌}
+use Prim.Native.Nat.{ℕ, ◌+◌, ◌-◌, ◌*◌, ◌≤◌, ◌<◌}
+use native.Mathlib.Omega.{arith}
+use borrow.Author.Rules.{rules}
+use lib.ListN.{length}
+use Rattle.standard.specs.Header.{granules, channel_count}
+use Rattle.standard.proofs.SideLaws.{four_slots}
+use Rattle.standard.specs.Record.{past_record}
+use Rattle.frame.proofs.Turns.{Turning, turning_begin, turning_part, turning_end, record_at_lem, part_long, four_at_most, some_channels}
+use Rattle.frame.proofs.frame_slots.slots_from.Given as goal
+
+abbrev pub invariant-loop-k : goal.invariant-loop-k
+invariant-loop-k l = (l.n ≡ granules l.h * channel_count l.h) × (l.channels ≡ channel_count l.h) × (l.k ≤ l.n) × Turning l.h l.i l.main l.initial.numbers l.numbers l.answers l.at l.k
+
+abbrev pub decreases-loop-k : goal.decreases-loop-k
+decreases-loop-k l = l.n - l.k

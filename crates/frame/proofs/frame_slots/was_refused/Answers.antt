@@ -1,0 +1,30 @@
+-- `was_refused` meets its contract: in each arm the outcome is the arm's. Assumes nothing.
+use mathlib.Core.Path.{sym, ap}
+use Rattle.standard.specs.declared.SlotOutcome.{SlotOutcome}
+use Rattle.frame.specs.Slot.{said_refused}
+use borrow.Author.Rules.{rules}
+use Rattle.frame.proofs.frame_slots.was_refused.Goals as goal
+
+-- was the goal enum-told
+-- enum_told : tie.Need-enum-told
+-- enum_told c = search rules
+
+-- was the goal enum-told-2
+-- enum-told-2 : tie.Need-enum-told-2
+-- enum-told-2 c = search rules
+
+-- was the goal enum-told-3
+-- enum-told-3 : tie.Need-enum-told-3
+-- enum-told-3 c = search rules
+
+pub returns-in-Read : goal.returns-in-Read
+unfolding said_refused
+returns-in-Read c = sym (ap (λ (o : SlotOutcome). said_refused o) c.in-Read.is)
+
+pub returns-in-NotRead : goal.returns-in-NotRead
+unfolding said_refused
+returns-in-NotRead c = sym (ap (λ (o : SlotOutcome). said_refused o) c.in-NotRead.is)
+
+pub returns-in-Lacking : goal.returns-in-Lacking
+unfolding said_refused
+returns-in-Lacking c = sym (ap (λ (o : SlotOutcome). said_refused o) c.in-Lacking.is)

@@ -1,0 +1,13 @@
+-- `second_under_intensity` meets its contract: its tests are the definition's. Assumes nothing.
+use mathlib.Core.Path.{sym, ap, ◌∙◌}
+use mathlib.Core.Bool.{Bool, ◌&&◌}
+use borrow.Author.Tests.{eq-eqb, ne_eqb}
+use Rattle.standard.specs.Header.{is_intensity}
+use borrow.Author.Rules.{rules}
+use Rattle.frame.proofs.setting.second_under_intensity.Goals as goal
+
+pub returns-then-n-eq1 : goal.returns-then-n-eq1
+returns-then-n-eq1 c = c.is_intensity.ensures ∙ sym (ap (λ (x : Bool). x && is_intensity c.args.h.channels) (eq-eqb _ _ c.if-n-eq1.true))
+
+pub returns : goal.returns
+returns c = sym (ap (λ (x : Bool). x && is_intensity c.args.h.channels) (ne_eqb _ _ c.if-n-eq1.false))

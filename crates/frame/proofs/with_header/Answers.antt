@@ -1,0 +1,123 @@
+-- `frame::with_header` meets its contract: the side information is the definition's, and the main data is what follows it.
+-- Assumes nothing.
+use mathlib.Core.Path.{refl, ◌∙◌}
+use native.Mathlib.Omega.{arith}
+use Rattle.standard.proofs.RefusalsLaws.{answered_told, answered_refused}
+use Rattle.standard.proofs.HeaderLaws.{frame-length_le, frame-length_any}
+use Rattle.standard.proofs.HeaderBytes.{header-known}
+use Rattle.standard.proofs.SideBytes.{side_known}
+use Rattle.standard.proofs.FrameLaws.{step-refused, frame-no_side, frame-absent}
+use Rattle.frame.proofs.Stages.{side_read, parts, main_length, whole-frame}
+use borrow.Author.Rules.{rules}
+use Rattle.frame.proofs.with_header.Goals as goal
+
+-- was the goal enum-known-verdict
+-- enum-known-verdict : tie.Need-enum-known-verdict
+-- enum-known-verdict c = search rules
+
+-- was the goal enum-told
+-- enum_told : tie.Need-enum-told
+-- enum_told c = search rules
+
+-- was the goal slice-bounds-with-main-start
+-- part-with-main-start : tie.Need-slice-bounds-with-main-start
+-- part-with-main-start c = search rules
+
+-- was the goal slice-bounds-with-main-end
+-- part-with-main-end : tie.Need-slice-bounds-with-main-end
+-- part-with-main-end c =
+--     let o = c.before.before.before.before.before.before.before.before.before.before.before in
+--     let h = o.args.h in
+--     let k = header-known o.args.frame.now o.args.h (λ i. omega (arith, c.before.before.before.before.before.before.before.before.before.before.shared-slice-known.given i)) o.requires.3 in
+--     omega (
+--       arith,
+--       c.before.before.before.if1.false,
+--       c.before.before.before.before.frame-length.ensures,
+--       c.before.before.header-size.ensures,
+--       c.before.side_size_lem.ensures,
+--       c.main-size.ensures,
+--       parts h k,
+--     )
+
+-- was the goal same-length
+-- same_length : tie.Need-same-length
+-- same_length c = search rules
+
+-- was the goal same-length-2
+-- same-length-2 : tie.Need-same-length-2
+-- same-length-2 c = search rules
+
+pub returns-in-Refused : goal.returns-in-Refused
+returns-in-Refused c =
+    let o = c in
+    step-refused
+    (frame-no_side _ _ o.requires.3
+    (side_read o.args.h o.args.frame.now (λ i. omega (arith, c.type_inv.frame i)) o.requires.3 ∙ answered_refused c.side_under-a.ensures c.in-Refused.is))
+    c.refused.ensures refl refl
+
+pub overflow_cast-offset : goal.overflow_cast-offset
+overflow_cast-offset c =
+    let h = c.args.h in
+    omega (arith, c.if-there-frame_length.true, c.frame_length.ensures, frame-length_any h)
+
+pub returns-then-there-frame_length : goal.returns-then-there-frame_length
+returns-then-there-frame_length c =
+    let o = c in
+    step-refused
+    (frame-absent _ _ o.requires.3
+    (side_read o.args.h o.args.frame.now (λ i. omega (arith, c.type_inv.frame i)) o.requires.3 ∙ answered_told c.side_under-a.ensures c.in_default.is)
+    (omega (arith, c.if-there-frame_length.true, c.frame_length.ensures))) c.refused-then-there-frame_length.ensures refl refl
+
+pub overflow_add-from : goal.overflow_add-from
+overflow_add-from c =
+    let o = c in
+    let h = o.args.h in
+    let k = header-known o.args.frame.now o.args.h (λ i. omega (arith, c.type_inv.frame i)) o.requires.3 in
+    record { fits = omega (arith, c.header_size.ensures, c.side_size.ensures, parts h k, frame-length_le h k) }
+
+pub overflow_add-to : goal.overflow_add-to
+overflow_add-to c =
+    let o = c in
+    let h = o.args.h in
+    let k = header-known o.args.frame.now o.args.h (λ i. omega (arith, c.type_inv.frame i)) o.requires.3 in
+    record {
+      fits = omega
+          (arith, c.header_size.ensures, c.side_size.ensures, c.main_size.ensures, parts h k, frame-length_le h k);
+    }
+
+pub with_main-requires : goal.with_main-requires
+with_main-requires c =
+    let o = c in
+    let h = o.args.h in
+    let t = (side_read o.args.h o.args.frame.now (λ i. omega (arith, c.type_inv.frame i)) o.requires.3 ∙ answered_told c.side_under-a.ensures c.in_default.is) in
+    let k = header-known o.args.frame.now o.args.h (λ i. omega (arith, c.type_inv.frame i)) o.requires.3 in
+    let hs = c.header_size.ensures in
+    let ss = c.side_size.ensures in
+    let ms = c.main_size.ensures in (
+      o.requires.0,
+      o.requires.1,
+      o.requires.2,
+      k,
+      side_known _ _ _ k t,
+      main_length h o.args.frame.now k
+          (omega (
+            arith,
+            c.if-there-frame_length.false,
+            c.frame_length.ensures,
+          )) hs ss ms,
+    )
+
+pub returns : goal.returns
+returns c =
+    let o = c in
+    let hs = c.header_size.ensures in
+    let ss = c.side_size.ensures in
+    let ms = c.main_size.ensures in
+    whole-frame o.args.frame.now o.args.h _ o.requires.3
+    (side_read o.args.h o.args.frame.now (λ i. omega (arith, c.type_inv.frame i)) o.requires.3 ∙ answered_told c.side_under-a.ensures c.in_default.is)
+    (omega (
+      arith,
+      c.if-there-frame_length.false,
+      c.frame_length.ensures,
+    )) hs ss ms
+    c.with_main.ensures
