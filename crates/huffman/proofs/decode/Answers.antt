@@ -22,7 +22,7 @@ read_pairs-place-requires c =
 
 pub returns-then-end-place : goal.returns-then-end-place
 returns-then-end-place c =
-    pairs-over _ _ _ _ _ c.requires.3 _ _ _ _ _ c.regions_of-g.ensures refl c.read_pairs-place.ensures c.if-end-place.true
+    pairs-over _ _ _ _ _ c.requires.3 _ _ _ _ _ c.regions_of-g.ensures refl c.read_pairs-place.ensures (omega arith)
 
 pub returns-then-end-at : goal.returns-then-end-at
 returns-then-end-at c =
