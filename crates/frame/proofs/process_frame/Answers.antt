@@ -10,22 +10,6 @@ use borrow.Author.Rules.{rules}
 use Rattle.standard.specs.Told.{refused}
 use Rattle.frame.proofs.process_frame.Goals as goal
 
--- was the goal enum-known-a
--- enum-known-a : tie.Need-enum-known-a
--- enum-known-a c = search rules
-
--- was the goal enum-told
--- enum_told : tie.Need-enum-told
--- enum_told c = search rules
-
--- was the goal same-length
--- same_length : tie.Need-same-length
--- same_length c = search rules
-
--- was the goal same-length-2
--- same-length-2 : tie.Need-same-length-2
--- same-length-2 c = search rules
-
 pub returns-then-bytes-lt-RESERVOIR_BYTES : goal.returns-then-bytes-lt-RESERVOIR_BYTES
 returns-then-bytes-lt-RESERVOIR_BYTES c = step-refused (call_few_bytes _ _ _ _ c.if-bytes-lt-RESERVOIR_BYTES.true) c.refused.ensures refl refl
 
@@ -38,11 +22,11 @@ returns-then-numbers-lt-FRAME_NUMBERS c = step-refused (call_few_numbers _ _ _ _
 pub returns-in_default : goal.returns-in_default
 returns-in_default c =
     let told_is = c.in_default.is in
-    let no_Header = sym c.read_frame_header-a.ensures ∙ ap told_header told_is
+    let no_header = sym c.read_frame_header-a.ensures ∙ ap told_header told_is
     ∙ sym (ap refused (c.refusal_of.ensures ∙ ap reason_of told_is)) in
     step-refused
     (call_fits _ _ _ _ c.if-bytes-lt-RESERVOIR_BYTES.false
-    c.if-reservoir-gt-RESERVOIR_BYTES.false c.if-numbers-lt-FRAME_NUMBERS.false ∙ frame-no_header _ _ no_Header)
+    c.if-reservoir-gt-RESERVOIR_BYTES.false c.if-numbers-lt-FRAME_NUMBERS.false ∙ frame-no_header _ _ no_header)
     c.refused-in_default.ensures refl refl
 
 pub with_header-requires : goal.with_header-requires
@@ -59,7 +43,7 @@ pub returns : goal.returns
 returns c =
     let a = c.args in
     subst (λ p. FrameRead a.bytes.now a.reservoir a.numbers.now p c.with_header.result
-    c.with_header.new.1.1.0 c.with_header.new.1.1.1.1.0)
+    c.with_header.new.bytes c.with_header.new.numbers)
     (sym (call_fits _ _ _ _ c.if-bytes-lt-RESERVOIR_BYTES.false
     c.if-reservoir-gt-RESERVOIR_BYTES.false
     c.if-numbers-lt-FRAME_NUMBERS.false)) c.with_header.ensures

@@ -7,10 +7,6 @@ use Rattle.standard.proofs.SlotsLaws.{few_numbers, made-up_call, read-call, slot
 use borrow.Author.Rules.{rules}
 use Rattle.frame.proofs.read_slots.Goals as goal
 
--- was the goal same-length
--- same_length : tie.Need-same-length
--- same_length c = search rules
-
 pub returns-then-numbers-lt-FRAME_NUMBERS : goal.returns-then-numbers-lt-FRAME_NUMBERS
 returns-then-numbers-lt-FRAME_NUMBERS c = slots-refused (few_numbers _ _ _ _ c.if-numbers-lt-FRAME_NUMBERS.true) c.no_slots.ensures refl
 

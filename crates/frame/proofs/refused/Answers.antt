@@ -10,7 +10,7 @@ unfolding told_or
 returns c =
     (
   refl,
-  c.no_Header.ensures,
+  c.no_header-header.ensures,
   (c.no_side-a.ensures (refused c.args.reason) refl).value,
   refl,
   c.lacking_slots-slots.ensures,

@@ -11,41 +11,19 @@ use Rattle.frame.proofs.Stages.{side_read, parts, main_length, whole-frame}
 use borrow.Author.Rules.{rules}
 use Rattle.frame.proofs.with_header.Goals as goal
 
--- was the goal enum-known-verdict
--- enum-known-verdict : tie.Need-enum-known-verdict
--- enum-known-verdict c = search rules
-
--- was the goal enum-told
--- enum_told : tie.Need-enum-told
--- enum_told c = search rules
-
--- was the goal slice-bounds-with-main-start
--- part-with-main-start : tie.Need-slice-bounds-with-main-start
--- part-with-main-start c = search rules
-
--- was the goal slice-bounds-with-main-end
--- part-with-main-end : tie.Need-slice-bounds-with-main-end
--- part-with-main-end c =
---     let o = c.before.before.before.before.before.before.before.before.before.before.before in
---     let h = o.args.h in
---     let k = header-known o.args.frame.now o.args.h (λ i. omega (arith, c.before.before.before.before.before.before.before.before.before.before.shared-slice-known.given i)) o.requires.3 in
---     omega (
---       arith,
---       c.before.before.before.if1.false,
---       c.before.before.before.before.frame-length.ensures,
---       c.before.before.header-size.ensures,
---       c.before.side_size_lem.ensures,
---       c.main-size.ensures,
---       parts h k,
---     )
-
--- was the goal same-length
--- same_length : tie.Need-same-length
--- same_length c = search rules
-
--- was the goal same-length-2
--- same-length-2 : tie.Need-same-length-2
--- same-length-2 c = search rules
+pub slice_bounds-with_main-end : goal.slice_bounds-with_main-end
+slice_bounds-with_main-end c =
+    let h = c.args.h in
+    let k = header-known c.args.frame.now h (λ i. omega (arith, c.type_inv.frame i)) c.requires.3 in
+    omega (
+      arith,
+      c.if-there-frame_length.false,
+      c.frame_length.ensures,
+      c.header_size.ensures,
+      c.side_size.ensures,
+      c.main_size.ensures,
+      parts h k,
+    )
 
 pub returns-in-Refused : goal.returns-in-Refused
 returns-in-Refused c =

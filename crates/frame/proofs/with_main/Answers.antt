@@ -8,26 +8,6 @@ use Rattle.frame.proofs.Stages.{fits_turn}
 use borrow.Author.Rules.{rules}
 use Rattle.frame.proofs.with_main.Goals as goal
 
--- was the goal enum-known-verdict
--- enum-known-verdict : tie.Need-enum-known-verdict
--- enum-known-verdict c = search rules
-
--- was the goal same-length
--- same_length : tie.Need-same-length
--- same_length c = search rules
-
--- was the goal enum-told
--- enum_told : tie.Need-enum-told
--- enum_told c = search rules
-
--- was the goal same-length-2
--- same-length-2 : tie.Need-same-length-2
--- same-length-2 c = search rules
-
--- was the goal same-length-3
--- same-length-3 : tie.Need-same-length-3
--- same-length-3 c = search rules
-
 pub returns-in-Refused : goal.returns-in-Refused
 returns-in-Refused c =
     let o = c in
@@ -44,7 +24,11 @@ slice_bounds-slots_from-end c =
     c.turn-a.ensures)
 
 pub slice_bounds-slots_from-end-2 : goal.slice_bounds-slots_from-end-2
-slice_bounds-slots_from-end-2 c = sym (length-take-le _ _ (slice-reshare-prefix-slots-from c))
+slice_bounds-slots_from-end-2 c =
+    sym
+    (length-take-le _ _
+    (kept_within _
+    (fits_turn c.args.h c.args.i c.args.main.now c.requires.0 c.requires.1 c.requires.3 c.requires.4 c.requires.5 c.turn-a.ensures)))
 
 pub returns : goal.returns
 returns c =

@@ -11,25 +11,9 @@ use Rattle.standard.specs.Record.{past_record}
 use Rattle.frame.proofs.Turns.{Turning, turning_begin, turning_part, turning_end, record_at_lem, part_long, four_at_most, some_channels}
 use Rattle.frame.proofs.frame_slots.slots_from.Goals as goal
 
--- was the goal slice-bounds-read-slot-start
--- part-read-slot-start : tie.Need-slice-bounds-read-slot-start invariant-loop decreases-loop
--- part-read-slot-start c = omega arith
-
--- was the goal slice-bounds-read-slot-end
--- part-read-slot-end : tie.Need-slice-bounds-read-slot-end invariant-loop decreases-loop
--- part-read-slot-end c =
---     omega (
---       arith,
---       c.before.before.before.before.before.loop.invariant.0,
---       c.before.before.before.before.before.loop.invariant.3.room,
---       c.before.before.before.before.before.loop.invariant.3.long,
---       four_at_most
---           c.before.before.before.before.before.before.before.before.before.before.args.h,
---     )
-
--- was the goal same-length
--- same_length : tie.Need-same-length invariant-loop decreases-loop
--- same_length c = c.before.loop.invariant.3.long
+pub slice_bounds-read_slot-end : goal.slice_bounds-read_slot-end
+slice_bounds-read_slot-end c =
+    omega (arith, c.loop-k.invariant.0, c.loop-k.invariant.3.room, c.loop-k.invariant.3.long, four_at_most c.args.h)
 
 pub channel_count-channels-requires : goal.channel_count-channels-requires
 channel_count-channels-requires c = tt

@@ -5,18 +5,6 @@ use Rattle.frame.specs.Slot.{said_refused}
 use borrow.Author.Rules.{rules}
 use Rattle.frame.proofs.frame_slots.was_refused.Goals as goal
 
--- was the goal enum-told
--- enum_told : tie.Need-enum-told
--- enum_told c = search rules
-
--- was the goal enum-told-2
--- enum-told-2 : tie.Need-enum-told-2
--- enum-told-2 c = search rules
-
--- was the goal enum-told-3
--- enum-told-3 : tie.Need-enum-told-3
--- enum-told-3 c = search rules
-
 pub returns-in-Read : goal.returns-in-Read
 unfolding said_refused
 returns-in-Read c = sym (ap (λ (o : SlotOutcome). said_refused o) c.in-Read.is)

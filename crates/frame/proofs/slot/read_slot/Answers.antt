@@ -8,10 +8,6 @@ use Rattle.frame.proofs.Slots.{stopped_read}
 use borrow.Author.Rules.{rules}
 use Rattle.frame.proofs.slot.read_slot.Goals as goal
 
--- was the goal same-length
--- same_length : tie.Need-same-length
--- same_length c = search rules
-
 pub returns-then-main-end : goal.returns-then-main-end
 returns-then-main-end c =
     let a = c.args in

@@ -11,75 +11,45 @@ use Rattle.standard.specs.declared.SlotOutcome.TheVariants.{Read}
 use borrow.Author.Rules.{rules}
 use Rattle.frame.proofs.slot.read_whole.Goals as goal
 
--- was the goal enum-known-why
--- enum-known-why : tie.Need-enum-known-why
--- enum-known-why c = search rules
-
--- was the goal enum-known-count
--- enum-known-count : tie.Need-enum-known-count
--- enum-known-count c = search rules
-
--- was the goal same-length
--- same_length : tie.Need-same-length
--- same_length c = search rules
-
--- was the goal same-length-2
--- same-length-2 : tie.Need-same-length-2
--- same-length-2 c = search rules
-
 pub returns-then-length-part2 : goal.returns-then-length-part2
 returns-then-length-part2 c =
-    let factors = c in
-    let a = factors.args in
+    let a = c.args in
     let over = slot_factors a.g a.r a.lost a.old a.main.now a.at
-    (omega (arith, factors.read_scale_factors-f.ensures.0, c.if-length-part2.true)) in
+    (omega (arith, c.read_scale_factors-f.ensures.0, c.if-length-part2.true)) in
     stopped_read over c.not_read.ensures refl
 
 pub returns-then-share_lost : goal.returns-then-share_lost
 returns-then-share_lost c =
-    let fits = c in
-    let factors = fits in
-    let a = factors.args in
+    let a = c.args in
     let lost = sym c.share_lost.ensures ∙ c.if-share_lost.true in
     stopped_read
-    (slot_lost a.g a.r a.lost a.old a.main.now a.at (omega (arith, factors.read_scale_factors-f.ensures.0, fits.if-length-part2.false)) lost)
+    (slot_lost a.g a.r a.lost a.old a.main.now a.at (omega (arith, c.read_scale_factors-f.ensures.0, c.if-length-part2.false)) lost)
     c.not_read-then-share_lost.ensures refl
 
 pub returns-in-Uncounted : goal.returns-in-Uncounted
 returns-in-Uncounted c =
-    let called = c in
-    let unlost = called in
-    let fits = unlost in
-    let factors = fits in
-    let start = factors in
-    let a = start.args in
-    let part2 = factors.read_scale_factors-f.ensures.0 in
-    let kept = sym unlost.share_lost.ensures ∙ unlost.if-share_lost.false in
-    let slot = slot_numbers_lem a.g a.r a.lost a.old a.main.now a.at (omega (arith, part2, fits.if-length-part2.false)) kept in
+    let a = c.args in
+    let part2 = c.read_scale_factors-f.ensures.0 in
+    let kept = sym c.share_lost.ensures ∙ c.if-share_lost.false in
+    let slot = slot_numbers_lem a.g a.r a.lost a.old a.main.now a.at (omega (arith, part2, c.if-length-part2.false)) kept in
     let e =
-    huffman_numbers_lem a.g.rate a.r _ a.numbers.now start.requires.0 start.requires.1
+    huffman_numbers_lem a.g.rate a.r _ a.numbers.now c.requires.0 c.requires.1
     ∙ ap (λ (n : ℕ). numbers_of word_of a.g.rate a.r (between a.main.now (a.at + n) (a.at + a.r.part2_3_length))) part2 in
-    let left = called.read_huffman.ensures.1 ∙ ap (λ (q : Numbers). slotLeft q a.numbers.now) e in
-    let told = ap told_count (sym c.in-Uncounted.is) ∙ called.read_huffman.ensures.0 ∙ ap count_of e in
+    let left = c.read_huffman.ensures.numbers_after ∙ ap (λ (q : Numbers). slotLeft q a.numbers.now) e in
+    let told = ap told_count (sym c.in-Uncounted.is) ∙ c.read_huffman.ensures.result_value ∙ ap count_of e in
     rw slot (numbers-refused _ _ _ _ _ _ _ _ told left c.not_read-in-Uncounted.ensures)
 
 pub returns-in-Counted : goal.returns-in-Counted
 returns-in-Counted c =
-    let called = c in
-    let unlost = called in
-    let fits = unlost in
-    let factors = fits in
-    let start = factors in
-    let a = start.args in
-    let part2 = factors.read_scale_factors-f.ensures.0 in
-    let kept = sym unlost.share_lost.ensures ∙ unlost.if-share_lost.false in
-    let slot = slot_numbers_lem a.g a.r a.lost a.old a.main.now a.at (omega (arith, part2, fits.if-length-part2.false)) kept in
+    let a = c.args in
+    let part2 = c.read_scale_factors-f.ensures.0 in
+    let kept = sym c.share_lost.ensures ∙ c.if-share_lost.false in
+    let slot = slot_numbers_lem a.g a.r a.lost a.old a.main.now a.at (omega (arith, part2, c.if-length-part2.false)) kept in
     let e =
-    huffman_numbers_lem a.g.rate a.r _ a.numbers.now start.requires.0 start.requires.1
+    huffman_numbers_lem a.g.rate a.r _ a.numbers.now c.requires.0 c.requires.1
     ∙ ap (λ (n : ℕ). numbers_of word_of a.g.rate a.r (between a.main.now (a.at + n) (a.at + a.r.part2_3_length))) part2 in
-    let left = called.read_huffman.ensures.1 ∙ ap (λ (q : Numbers). slotLeft q a.numbers.now) e in
-    let count = c.count-1.given in
-    let told = ap told_count (sym count.1) ∙ called.read_huffman.ensures.0 ∙ ap count_of e in
+    let left = c.read_huffman.ensures.numbers_after ∙ ap (λ (q : Numbers). slotLeft q a.numbers.now) e in
+    let told = ap told_count (sym c.in-Counted.is) ∙ c.read_huffman.ensures.result_value ∙ ap count_of e in
     rw slot
     (numbers-counted _ _ _ _ _ _ _ _ told left
-    (λ j. record { outcome = Read count.0.0; long = factors.read_scale_factors-f.ensures.1 j; short = factors.read_scale_factors-f.ensures.2 j }))
+    (λ j. record { outcome = Read c.in-Counted.count; long = c.read_scale_factors-f.ensures.1 j; short = c.read_scale_factors-f.ensures.2 j }))
