@@ -1,12 +1,12 @@
-// Lent main data and the bit place at which it is read. No function over a struct that holds a reference is covered: each is
-// thin, leaves the work to a function of slices and numbers, and is proved by a walk of its own.
+// Lent main data and the bit place at which it is read. Each function over a reader is thin and leaves the work to a function of slices and
+// numbers; none needs a proof by hand.
 #![tactic(auto)]
 
 ghost use Rattle.std.specs.Prelude.{◌≡◌, min};
 ghost use Rattle.standard.specs.Bits.{field_at};
 ghost use Rattle.bit_reader.specs.Reader.{past, begun, here, ahead};
 
-#[derive(Drop)]
+#[derive(Clone, Copy)]
 pub struct BitReader<'a> {
     pub bytes: &'a [u8],
     pub at: usize,
@@ -62,7 +62,7 @@ pub fn read<'s, 'a>(r: &'s mut BitReader<'a>, n: usize) -> u16
     value
 }
 
-// The field of n bits after the first `gap` bits. Its parameters are plain, so whoever calls it needs no walk.
+// The field of n bits after the first `gap` bits. Its parameters are plain, so whoever calls it needs no reader.
 pub fn field_after(bytes: &[u8], gap: usize, n: usize) -> u16
     ensures { result ≡ field_at bytes.now gap (min n 16) }
 {
