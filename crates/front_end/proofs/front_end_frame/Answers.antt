@@ -1,0 +1,13 @@
+-- `front_end_frame` meets its contract: the frame is the frame step's, and its answer is laid out. Assumes nothing.
+use mathlib.Core.Path.{refl}
+use Rattle.front_end.proofs.Laws.{frame-few, frame-done, room_few, room_fits}
+use borrow.Author.Rules.{rules}
+use Rattle.front_end.proofs.front_end_frame.Goals as goal
+
+pub returns-then-rows-lt-ROWS : goal.returns-then-rows-lt-ROWS
+returns-then-rows-lt-ROWS c = frame-few (room_few _ _ _ _ _ c.if-rows-lt-ROWS.true) c.told_of-t.ensures refl refl refl
+
+pub returns : goal.returns
+returns c =
+    let o = c in
+    frame-done (room_fits _ _ _ _ _ o.if-rows-lt-ROWS.false) o.process_frame-a.ensures c.tell-t.ensures
