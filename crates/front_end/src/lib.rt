@@ -1,5 +1,5 @@
-// The front end for C and Rust: exported calls on numbers and on slices of numbers. Each is total, and what it answers is laid out in
-// specs/Calls.antt. A frame's bytes are always handed in from the first byte of its header on.
+// The front end for C and Rust: the calls that `front_end_c` exports, on numbers and on slices of numbers. Each is total, and what it answers is laid
+// out in specs/Calls.antt. A frame's bytes are always handed in from the first byte of its header on.
 #![tactic(auto)]
 
 ghost use Rattle.std.specs.Prelude.{◌≡◌, ◌≤◌, length};
@@ -63,8 +63,7 @@ pub struct Sizes {
 }
 
 // One frame. `reservoir` is the length that the last frame answered.
-#[unsafe(no_mangle)]
-pub extern "C" fn front_end_frame(
+pub fn front_end_frame(
     frame: &[u8],
     bytes: &mut [u8],
     reservoir: usize,
@@ -129,8 +128,7 @@ fn slots_under(
 }
 
 // The slots of a frame from given main data of any length; of the frame only the header and the side information are read.
-#[unsafe(no_mangle)]
-pub extern "C" fn front_end_slots(
+pub fn front_end_slots(
     frame: &[u8],
     main: &[u8],
     numbers: &mut [i32],
@@ -150,8 +148,7 @@ pub extern "C" fn front_end_slots(
 }
 
 // For a gap on the card: the length of a reservoir of which no byte is meant.
-#[unsafe(no_mangle)]
-pub extern "C" fn front_end_emptied() -> usize
+pub fn front_end_emptied() -> usize
     ensures { result ≡ «emptied».length }
 {
     let e = emptied();
@@ -177,8 +174,7 @@ fn reorder_under(h: FrameHeader, frame: &[u8], slot: usize, numbers: &mut [i32])
 }
 
 // The reorder of a slot's 576 numbers, by the frame's own record of the slot; only short slots are changed.
-#[unsafe(no_mangle)]
-pub extern "C" fn front_end_reorder(frame: &[u8], slot: usize, numbers: &mut [i32]) -> CallTold
+pub fn front_end_reorder(frame: &[u8], slot: usize, numbers: &mut [i32]) -> CallTold
     ensures { ReorderDone numbers.old (reorder_step frame.now slot numbers.old) result numbers.new }
 {
     if numbers.len() < SLOT_NUMBERS {
@@ -211,8 +207,7 @@ fn sizes_of(h: FrameHeader) -> Sizes
 }
 
 // The sizes of a frame, by the frame's first bytes.
-#[unsafe(no_mangle)]
-pub extern "C" fn front_end_sizes(frame: &[u8]) -> Sizes
+pub fn front_end_sizes(frame: &[u8]) -> Sizes
     ensures { result ≡ sizes_told (header_of frame.now) }
 {
     match read_frame_header(frame) {
