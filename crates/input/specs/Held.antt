@@ -4,7 +4,6 @@ use Rattle.input.specs.declared.Held.{Held}
 use Rattle.input.specs.declared.Filled.{Filled}
 use Rattle.input.specs.declared.Got.{Got}
 use Rattle.input.specs.declared.Got.TheVariants.{Bytes, Nothing, Error}
-use Rattle.input.specs.declared.Input.{Input}
 use Rattle.input.specs.declared.Input.TheVariants.{Open}
 
 -- the lent bytes from `from` up to `end`

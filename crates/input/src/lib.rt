@@ -5,30 +5,30 @@ ghost use Rattle.std.specs.Prelude.{◌≡◌, ◌≤◌, length};
 ghost use Rattle.input.specs.Held.{unread_of, taken_of, Slid, GotIn, ReadOn, FilledUp};
 
 use lent_bytes::{least, slide};
-use libc::read;
+use std::io::Read;
 
 // The unread bytes are those from `from` up to `end`.
-#[derive(Drop)]
+#[derive(Clone, Copy)]
 pub struct Held {
     pub from: usize,
     pub end: usize,
 }
 
 // What became of the input behind them: there may be more, it has ended, or it could not be read.
-#[derive(Drop)]
+#[derive(Clone, Copy)]
 pub enum Input {
     Open,
     Ended,
     Failed,
 }
 
-#[derive(Drop)]
+#[derive(Clone, Copy)]
 pub struct Filled {
     pub held: Held,
     pub input: Input,
 }
 
-#[derive(Drop)]
+#[derive(Clone, Copy)]
 enum Got {
     Bytes(usize),
     Nothing,
@@ -82,18 +82,18 @@ fn slid(bytes: &mut [u8], held: Held) -> Held
     }
 }
 
-fn read_once(fd: i32, bytes: &mut [u8]) -> Got
+fn read_once<R: Read>(reader: &mut R, bytes: &mut [u8]) -> Got
     ensures { GotIn (length bytes.old) result }
 {
-    let got = read(fd, &mut *bytes);
-    if got < 0 {
-        return Got::Error;
+    match reader.read(bytes) {
+        Err(_) => Got::Error,
+        Ok(n) => {
+            if n == 0 {
+                return Got::Nothing;
+            }
+            Got::Bytes(n)
+        }
     }
-    let n = io::count(got, bytes);
-    if n == 0 {
-        return Got::Nothing;
-    }
-    Got::Bytes(n)
 }
 
 fn up_to(end: usize, input: Input) -> Filled
@@ -106,13 +106,13 @@ fn up_to(end: usize, input: Input) -> Filled
 }
 
 // Reads behind the first n bytes until all of the lent bytes are filled, the input ends or a read fails.
-fn read_on(fd: i32, bytes: &mut [u8], n: usize) -> Filled
+fn read_on<R: Read>(reader: &mut R, bytes: &mut [u8], n: usize) -> Filled
     requires { n ≤ length bytes.old }
     ensures { ReadOn bytes.old n result bytes.new }
 {
     let mut end = n;
     while end < bytes.len() {
-        match read_once(fd, &mut bytes[end..]) {
+        match read_once(reader, &mut bytes[end..]) {
             Got::Error => return up_to(end, Input::Failed),
             Got::Nothing => return up_to(end, Input::Ended),
             Got::Bytes(more) => end += more,
@@ -121,12 +121,12 @@ fn read_on(fd: i32, bytes: &mut [u8], n: usize) -> Filled
     up_to(end, Input::Open)
 }
 
-// Slides the unread bytes to the front and reads behind them. Which bytes come is the machine's to say; the unread ones stay, and
+// Slides the unread bytes to the front and reads behind them. Which bytes come is the reader's to say; the unread ones stay, and
 // the input is told to be open only where all of the lent bytes are filled.
-pub fn fill(fd: i32, bytes: &mut [u8], held: Held) -> Filled
+pub fn fill<R: Read>(reader: &mut R, bytes: &mut [u8], held: Held) -> Filled
     ensures { FilledUp bytes.old held result bytes.new }
 {
     let c = slid(&mut *bytes, held);
     let end = c.end;
-    read_on(fd, bytes, end)
+    read_on(reader, bytes, end)
 }
