@@ -4,12 +4,11 @@
 use derived::is_two;
 use frame::process_frame;
 use input::{Filled, Held, Input, blank, fill, taken, unread};
-use io::write_all;
 use lent_bytes::put;
-use libc::{STDERR_FILENO, STDIN_FILENO, STDOUT_FILENO};
 use lines::{put_end, put_frame, put_refused, put_slots};
 use reservoir::emptied;
 use standard::{FRAME_NUMBERS, FrameAnswer, Refusal, Reservoir, Verdict};
+use std::io::Read;
 
 // No frame is longer, so with so many bytes unread the next one is whole.
 const LONGEST: usize = 2048;
@@ -18,9 +17,9 @@ const LONGEST: usize = 2048;
 const FULL: usize = 49152;
 
 // More frames than any card has; a loop must end.
-const MOST: u64 = 18446744073709551615;
+const MOST: u64 = u64::MAX;
 
-#[derive(Drop)]
+#[derive(Clone, Copy)]
 enum Going {
     On,
     Stopped,
@@ -29,14 +28,14 @@ enum Going {
 }
 
 // Where the next text goes, and whether to go on.
-#[derive(Drop)]
+#[derive(Clone, Copy)]
 struct Place {
     at: usize,
     going: Going,
 }
 
 // What goes on from frame to frame beside the lent memory.
-#[derive(Drop)]
+#[derive(Clone, Copy)]
 struct Run {
     held: Held,
     input: Input,
@@ -45,11 +44,11 @@ struct Run {
 }
 
 // Reads on where the next frame might not be whole in what is held.
-fn refill(bytes: &mut [u8], held: Held, input: Input) -> Filled {
+fn refill<R: Read>(reader: &mut R, bytes: &mut [u8], held: Held, input: Input) -> Filled {
     match input {
         Input::Open => {
             if unread(bytes, held).len() < LONGEST {
-                return fill(STDIN_FILENO, bytes, held);
+                return fill(reader, bytes, held);
             }
             Filled {
                 held,
@@ -68,8 +67,8 @@ fn refill(bytes: &mut [u8], held: Held, input: Input) -> Filled {
 }
 
 // Writes the text up to a place, and answers whether it could.
-fn written(out: &[u8], at: usize) -> bool {
-    write_all(STDOUT_FILENO, unread(out, Held { from: 0, end: at }))
+fn written(rt: &impl Print, out: &[u8], at: usize) -> bool {
+    rt.write_all(unread(out, Held { from: 0, end: at })).is_ok()
 }
 
 // Nothing is left unread: the end of the card, or as far as it could be read.
@@ -120,7 +119,14 @@ fn refused(out: &mut [u8], at: usize, n: u64, why: Refusal, input: Input) -> Pla
 }
 
 // A frame's lines, written out where the lent bytes might not hold those of the next one too.
-fn accepted(out: &mut [u8], at: usize, n: u64, a: FrameAnswer, numbers: &[i32]) -> Place {
+fn accepted(
+    rt: &impl Print,
+    out: &mut [u8],
+    at: usize,
+    n: u64,
+    a: FrameAnswer,
+    numbers: &[i32],
+) -> Place {
     let header = a.header;
     let channels = header.channels;
     let slots = a.slots;
@@ -141,7 +147,7 @@ fn accepted(out: &mut [u8], at: usize, n: u64, a: FrameAnswer, numbers: &[i32]) 
             going: Going::On,
         };
     }
-    if written(out, next) {
+    if written(rt, out, next) {
         return Place {
             at: 0,
             going: Going::On,
@@ -153,16 +159,26 @@ fn accepted(out: &mut [u8], at: usize, n: u64, a: FrameAnswer, numbers: &[i32]) 
     }
 }
 
-fn told(out: &mut [u8], at: usize, n: u64, a: FrameAnswer, input: Input, numbers: &[i32]) -> Place {
+fn told(
+    rt: &impl Print,
+    out: &mut [u8],
+    at: usize,
+    n: u64,
+    a: FrameAnswer,
+    input: Input,
+    numbers: &[i32],
+) -> Place {
     let v = a.verdict;
     match v {
         Verdict::Refused(why) => refused(out, at, n, why, input),
-        Verdict::Accepted => accepted(out, at, n, a, numbers),
+        Verdict::Accepted => accepted(rt, out, at, n, a, numbers),
     }
 }
 
 // The n-th frame.
-fn step(
+fn step<R: Read>(
+    rt: &impl Print,
+    reader: &mut R,
     piece: &mut [u8],
     bytes: &mut [u8],
     numbers: &mut [i32],
@@ -175,7 +191,7 @@ fn step(
     let reservoir = run.reservoir;
     let place = run.place;
     let at = place.at;
-    let f = refill(&mut *piece, held, input);
+    let f = refill(reader, &mut *piece, held, input);
     let filled = f.held;
     let source = f.input;
     let frame = unread(piece, filled);
@@ -190,7 +206,7 @@ fn step(
     }
     let a = process_frame(frame, &mut *bytes, reservoir, &mut *numbers);
     let kept = a.reservoir;
-    let next = told(out, at, n, a, source, numbers);
+    let next = told(rt, out, at, n, a, source, numbers);
     Run {
         held: taken(filled, a.length),
         input: source,
@@ -199,31 +215,38 @@ fn step(
     }
 }
 
-fn say(words: &[u8]) {
-    write_all(STDERR_FILENO, words);
+fn say(rt: &impl Eprint, words: &str) {
+    let _ = rt.eprintln(words);
 }
 
 // The last line, after n frames; or, where reading or writing failed, a word to whoever runs this: that is no end of the card.
-fn finish(out: &mut [u8], place: Place, n: u64) {
+fn finish(rt: &(impl Print + Eprint), out: &mut [u8], place: Place, n: u64) {
     let at = place.at;
     let going = place.going;
     match going {
-        Going::Unwritten => say(b"slots: the output could not be written\n"),
+        Going::Unwritten => say(rt, "slots: the output could not be written"),
         Going::Unread => {
-            written(out, at);
-            say(b"slots: the input could not be read\n");
+            written(rt, out, at);
+            say(rt, "slots: the input could not be read");
         }
         Going::Stopped => {
             let end = put_end(&mut *out, at, n);
-            if !written(out, end) {
-                say(b"slots: the output could not be written\n");
+            if !written(rt, out, end) {
+                say(rt, "slots: the output could not be written");
             }
         }
         Going::On => {}
     }
 }
 
-fn walk(piece: &mut [u8], bytes: &mut [u8], numbers: &mut [i32], out: &mut [u8]) {
+fn walk<R: Read>(
+    rt: &(impl Print + Eprint),
+    reader: &mut R,
+    piece: &mut [u8],
+    bytes: &mut [u8],
+    numbers: &mut [i32],
+    out: &mut [u8],
+) {
     let at = put(&mut *out, 0, b"front end\n");
     let mut run = Run {
         held: blank(),
@@ -234,9 +257,10 @@ fn walk(piece: &mut [u8], bytes: &mut [u8], numbers: &mut [i32], out: &mut [u8])
             going: Going::On,
         },
     };
-    let mut n = 0u64;
-    while n < MOST {
+    for n in 0..MOST {
         run = step(
+            rt,
+            reader,
             &mut *piece,
             &mut *bytes,
             &mut *numbers,
@@ -247,18 +271,25 @@ fn walk(piece: &mut [u8], bytes: &mut [u8], numbers: &mut [i32], out: &mut [u8])
         let place = run.place;
         let going = place.going;
         if let Going::On = going {
-            n += 1;
-        } else {
-            finish(out, place, n);
-            return;
+            continue;
         }
+        finish(rt, out, place, n);
+        return;
     }
 }
 
-fn main() {
-    let mut piece = io::large_buffer();
-    let mut bytes = io::buffer();
+fn main(rt: HostRuntime) {
+    let mut piece = [0u8; 65536];
+    let mut bytes = [0u8; 4096];
     let mut numbers = [0i32; FRAME_NUMBERS];
-    let mut out = io::large_buffer();
-    walk(&mut piece, &mut bytes, &mut numbers, &mut out);
+    let mut out = [0u8; 65536];
+    let mut reader = rt.stdin();
+    walk(
+        &rt,
+        &mut reader,
+        &mut piece,
+        &mut bytes,
+        &mut numbers,
+        &mut out,
+    );
 }
