@@ -9,24 +9,34 @@ mod walk;
 
 use crate::files::replay;
 use crate::walk::{flushed, is_word, read_words, run};
-use libc::STDOUT_FILENO;
 use standard::FRAME_NUMBERS;
+use std::io::Read;
+use std::rt::Env;
 
-fn dump() {
-    let mut out = io::large_buffer();
-    let mut piece = io::large_buffer();
-    let mut bytes = io::buffer();
+fn dump<R: Read>(rt: &(impl Env + Print), reader: &mut R) {
+    let mut out = [0u8; 65536];
+    let mut piece = [0u8; 65536];
+    let mut bytes = [0u8; 4096];
     let mut numbers = [0i32; FRAME_NUMBERS];
-    let said = read_words();
-    let w = run(&mut out, &mut piece, &mut bytes, &mut numbers, said);
-    flushed(&out, w, said);
-    io::write_all(STDOUT_FILENO, b"end\n");
+    let said = read_words(rt);
+    let w = run(
+        rt,
+        reader,
+        &mut out,
+        &mut piece,
+        &mut bytes,
+        &mut numbers,
+        said,
+    );
+    flushed(rt, &out, w, said);
+    let _ = rt.write_all(b"end\n");
 }
 
-fn main() {
-    if is_word(1, b"replay") {
-        replay();
+fn main(rt: HostRuntime) {
+    if is_word(&rt, 1, b"replay") {
+        replay(&rt);
     } else {
-        dump();
+        let mut reader = rt.stdin();
+        dump(&rt, &mut reader);
     }
 }

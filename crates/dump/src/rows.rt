@@ -118,7 +118,7 @@ fn put_slot(
 }
 
 // Which granule and channel a slot is of.
-#[derive(Drop)]
+#[derive(Clone, Copy)]
 struct Place {
     granule: u64,
     channel: u64,

@@ -4,9 +4,10 @@ use fields::step;
 use frame::process_frame;
 use input::{Held, Input, blank, fill, taken, unread};
 use lent_bytes::least;
-use libc::{STDIN_FILENO, STDOUT_FILENO};
 use reservoir::emptied;
 use standard::{Reservoir, Verdict};
+use std::io::Read;
+use std::rt::Env;
 
 // The longest frame and more: what a try must find held, unless the input has ended.
 const AHEAD: usize = 8192;
@@ -20,21 +21,20 @@ const NO_END: usize = 0xffff_ffff_ffff_ffff;
 const PRIME: u64 = 4_294_967_291;
 
 // More turns than any input takes: nothing says that an input ends, so the turns are counted.
-const TURNS: u64 = 0xffff_ffff_ffff_ffff;
+const TURNS: u64 = u64::MAX;
 
-// What the program was told, and what it reads from. With `sums` the text is not written but summed up.
-#[derive(Drop)]
+// What the program was told. With `sums` the text is not written but summed up.
+#[derive(Clone, Copy)]
 pub(crate) struct Words {
     pub(crate) on: bool,
     pub(crate) many: bool,
     pub(crate) sums: bool,
-    pub(crate) input: i32,
 }
 
 // Where the walk is: what is held of the input and whether more may come; the bytes that the present card still has, and whether
 // they are passed over; the place in it; the reservoir; the end of the text that is not written out yet, and the sum of the text
 // before it; the next card's number; and how many tries there were.
-#[derive(Drop)]
+#[derive(Clone, Copy)]
 pub(crate) struct Walk {
     held: Held,
     open: bool,
@@ -63,18 +63,19 @@ fn same(a: &[u8], b: &[u8]) -> bool {
     true
 }
 
-pub(crate) fn is_word(i: usize, word: &[u8]) -> bool {
-    let mut said = io::buffer();
-    let n = os::arg(i, &mut said);
-    same(&said[..n], word)
+pub(crate) fn is_word(rt: &impl Env, i: usize, word: &[u8]) -> bool {
+    let mut said = [0u8; 4096];
+    match rt.arg(i, &mut said) {
+        Ok(n) => same(&said[..n], word),
+        Err(_) => false,
+    }
 }
 
-pub(crate) fn read_words() -> Words {
+pub(crate) fn read_words(rt: &impl Env) -> Words {
     Words {
-        on: is_word(1, b"on") | is_word(2, b"on"),
-        many: is_word(1, b"cards") | is_word(2, b"cards"),
+        on: is_word(rt, 1, b"on") | is_word(rt, 2, b"on"),
+        many: is_word(rt, 1, b"cards") | is_word(rt, 2, b"cards"),
         sums: false,
-        input: STDIN_FILENO,
     }
 }
 
@@ -106,7 +107,7 @@ fn summed(before: u64, text: &[u8]) -> u64 {
 }
 
 // All of the text written out, or summed up.
-pub(crate) fn flushed(out: &[u8], w: Walk, said: Words) -> Walk {
+pub(crate) fn flushed(rt: &impl Print, out: &[u8], w: Walk, said: Words) -> Walk {
     let from = 0usize;
     let end = least(w.at, out.len());
     let mut next = w;
@@ -115,7 +116,7 @@ pub(crate) fn flushed(out: &[u8], w: Walk, said: Words) -> Walk {
         next.sum = summed(w.sum, &out[from..end]);
         return next;
     }
-    io::write_all(STDOUT_FILENO, &out[from..end]);
+    let _ = rt.write_all(&out[from..end]);
     next
 }
 
@@ -125,27 +126,27 @@ fn finished(w: Walk) -> Walk {
     next
 }
 
-fn is_open(input: Input) -> bool {
+fn is_open(rt: &impl Print, input: Input) -> bool {
     match input {
         Input::Open => true,
         Input::Ended => false,
         Input::Failed => {
-            io::write_all(STDOUT_FILENO, b"unreadable\n");
+            let _ = rt.write_all(b"unreadable\n");
             false
         }
     }
 }
 
 // Reads on, where too little is ahead.
-fn filled(piece: &mut [u8], w: Walk, input: i32) -> Walk {
+fn filled<R: Read>(rt: &impl Print, reader: &mut R, piece: &mut [u8], w: Walk) -> Walk {
     let c = w.held;
     if (unread(piece, c).len() < AHEAD) & w.open {
-        let f = fill(input, piece, c);
+        let f = fill(reader, piece, c);
         let state = f.input;
         let filled_card = f.held;
         let mut next = w;
         next.held = filled_card;
-        next.open = is_open(state);
+        next.open = is_open(rt, state);
         return next;
     }
     w
@@ -162,7 +163,7 @@ fn opened(out: &mut [u8], w: Walk, held: Held, left: usize) -> Walk {
         reservoir: emptied(),
         at: put_card(out, w.at, w.number),
         sum: w.sum,
-        number: std::num::wrapping_add_u64(w.number, 1),
+        number: w.number.wrapping_add(1),
         tries: w.tries,
         done: false,
     }
@@ -198,7 +199,7 @@ fn gone(w: Walk, n: usize) -> Walk {
     let further = taken(c, n);
     next.held = further;
     next.left = left - least(n, left);
-    next.place = std::num::wrapping_add_u64(w.place, n as u64);
+    next.place = w.place.wrapping_add(n as u64);
     next
 }
 
@@ -224,7 +225,7 @@ fn tried(w: Walk, at: usize, reservoir: Reservoir, further: usize, on: bool) -> 
     next.at = at;
     next.reservoir = reservoir;
     next.skip = !on;
-    next.tries = std::num::wrapping_add_u64(w.tries, 1);
+    next.tries = w.tries.wrapping_add(1);
     next
 }
 
@@ -254,7 +255,9 @@ fn attempt(
 }
 
 // Input and text are seen to; then a card begins, or bytes are passed over, or a frame is tried.
-fn turn(
+fn turn<R: Read>(
+    rt: &impl Print,
+    reader: &mut R,
     out: &mut [u8],
     piece: &mut [u8],
     bytes: &mut [u8],
@@ -262,7 +265,7 @@ fn turn(
     w: Walk,
     said: Words,
 ) -> Walk {
-    let a = filled(&mut *piece, w, said.input);
+    let a = filled(rt, reader, &mut *piece, w);
     if a.left == 0 {
         return begin(out, piece, a, said);
     }
@@ -270,12 +273,14 @@ fn turn(
         return skipped(piece, a);
     }
     if FULL < a.at {
-        return flushed(out, a, said);
+        return flushed(rt, out, a, said);
     }
     attempt(out, piece, bytes, numbers, a, said)
 }
 
-pub(crate) fn run(
+pub(crate) fn run<R: Read>(
+    rt: &impl Print,
+    reader: &mut R,
     out: &mut [u8],
     piece: &mut [u8],
     bytes: &mut [u8],
@@ -283,13 +288,20 @@ pub(crate) fn run(
     said: Words,
 ) -> Walk {
     let mut w = start();
-    let mut turns = TURNS;
-    while 0 < turns {
+    for _ in 0..TURNS {
         if w.done {
             return w;
         }
-        w = turn(&mut *out, &mut *piece, &mut *bytes, &mut *numbers, w, said);
-        turns -= 1;
+        w = turn(
+            rt,
+            reader,
+            &mut *out,
+            &mut *piece,
+            &mut *bytes,
+            &mut *numbers,
+            w,
+            said,
+        );
     }
     w
 }
