@@ -105,11 +105,7 @@ fn with_fields(old: SlotRecord, line: &[u8], from: usize) -> SlotRecord {
         }
         let end = place_of(line, at, b'=');
         let n = number(line, end);
-        new = with_field(
-            new,
-            byte_at(line, std::num::wrapping_sub_usize(end, 1)),
-            n.value,
-        );
+        new = with_field(new, byte_at(line, end.wrapping_sub(1)), n.value);
         at = n.next;
         turns += 1;
     }

@@ -22,9 +22,7 @@ mod words;
 
 use frame::{process_frame, read_slots};
 use input::{Held, blank, fill, unread};
-use io::{buffer, large_buffer};
 use lent_bytes::least;
-use libc::STDIN_FILENO;
 use lines::part;
 use made_up::{header_by, header_in, side_by};
 use program::say_program;
@@ -46,7 +44,7 @@ const NOWHERE: usize = 0xffff_ffff;
 
 // What the next case goes by: where in the input the line of the last frame begins, and the one that makes up something of it; the
 // reservoir's stated length; how much memory is lent; and whether factors are asked for.
-#[derive(Drop)]
+#[derive(Clone, Copy)]
 struct State {
     frame: usize,
     made_up: usize,
@@ -68,20 +66,20 @@ fn call_frame(frame: &[u8], bytes: &mut [u8], numbers: &mut [i32], state: State)
 }
 
 // Answers the reservoir's length after it.
-fn answer_frame(frame: &[u8], bytes: &mut [u8], state: State) -> usize {
+fn answer_frame(rt: &impl Print, frame: &[u8], bytes: &mut [u8], state: State) -> usize {
     let mut numbers = [0i32; FRAME_NUMBERS];
     let a = call_frame(frame, bytes, &mut numbers, state);
-    say_frame(a, &numbers, state.factors);
+    say_frame(rt, a, &numbers, state.factors);
     let reservoir = a.reservoir;
     reservoir.length
 }
 
 // f
-fn run_frame(text: &[u8], at: usize, bytes: &mut [u8], state: State) -> State {
+fn run_frame(rt: &impl Print, text: &[u8], at: usize, bytes: &mut [u8], state: State) -> State {
     let mut frame = [0u8; FRAME_BYTES];
     let c = bytes_of(line_at(text, at), &mut frame);
     let mut new = state;
-    new.stated = answer_frame(unread(&frame, c), bytes, state);
+    new.stated = answer_frame(rt, unread(&frame, c), bytes, state);
     new.frame = at;
     new.made_up = NOWHERE;
     new
@@ -100,17 +98,17 @@ fn side_of(text: &[u8], state: State) -> SideInfo {
     side_by(unread(&frame, c), line_at(text, state.made_up))
 }
 
-fn say_side(h: FrameHeader, verdict: Verdict, info: SideInfo) {
+fn say_side(rt: &impl Print, h: FrameHeader, verdict: Verdict, info: SideInfo) {
     match verdict {
         Verdict::Refused(_) => {
-            say_verdict(b"side ", verdict);
-            say_end();
+            say_verdict(rt, b"side ", verdict);
+            say_end(rt);
         }
         Verdict::Accepted => {
-            say_count(b"side begin ", info.main_data_begin as u64);
-            say_end();
+            say_count(rt, b"side begin ", info.main_data_begin as u64);
+            say_end(rt);
             let records = info.slots;
-            say_records(h, records);
+            say_records(rt, h, records);
         }
     }
 }
@@ -123,7 +121,7 @@ fn header_word(words: &[u8], end: usize) -> FrameHeader {
 }
 
 // i
-fn run_side(words: &[u8]) {
+fn run_side(rt: &impl Print, words: &[u8]) {
     let mut frame = [0u8; FRAME_BYTES];
     let from = place_of(words, 2, b' ');
     let rest = Held {
@@ -135,7 +133,7 @@ fn run_side(words: &[u8]) {
     let a = read_side_info(h, unread(&frame, c));
     let verdict = a.verdict;
     let info = a.info;
-    say_side(h, verdict, info);
+    say_side(rt, h, verdict, info);
 }
 
 fn call_slots(
@@ -149,30 +147,30 @@ fn call_slots(
     read_slots(h, i, main, &mut numbers[0..n])
 }
 
-fn answer_slots(text: &[u8], main: &[u8], state: State) {
+fn answer_slots(rt: &impl Print, text: &[u8], main: &[u8], state: State) {
     let mut numbers = [0i32; FRAME_NUMBERS];
     let h = header_of(text, state);
     let i = side_of(text, state);
     let a = call_slots(main, h, i, &mut numbers, state.numbers);
     let verdict = a.verdict;
     let slots = a.slots;
-    say_verdict(b"slots ", verdict);
-    say_end();
-    say_slots(h, slots, &numbers, state.factors);
+    say_verdict(rt, b"slots ", verdict);
+    say_end(rt);
+    say_slots(rt, h, slots, &numbers, state.factors);
 }
 
 // s
-fn run_slots(text: &[u8], words: &[u8], state: State) {
+fn run_slots(rt: &impl Print, text: &[u8], words: &[u8], state: State) {
     let mut main = [0u8; RESERVOIR_BYTES];
     let c = bytes_of(words, &mut main);
-    answer_slots(text, unread(&main, c), state);
+    answer_slots(rt, text, unread(&main, c), state);
 }
 
 // z
-fn run_program(words: &[u8]) {
+fn run_program(rt: &impl Print, words: &[u8]) {
     let mut card = [0u8; FRAME_BYTES];
     let c = bytes_of(words, &mut card);
-    say_program(unread(&card, c));
+    say_program(rt, unread(&card, c));
 }
 
 // ---- reorder
@@ -196,24 +194,31 @@ fn record_of(text: &[u8], state: State, slot: usize) -> SlotRecord {
 }
 
 // Reorder by the record of a slot, over as many of the numbers as are lent.
-fn run_reorder(text: &[u8], state: State, slot: usize, numbers: &mut [i32], lent: usize) {
+fn run_reorder(
+    rt: &impl Print,
+    text: &[u8],
+    state: State,
+    slot: usize,
+    numbers: &mut [i32],
+    lent: usize,
+) {
     let h = header_of(text, state);
     let r = record_of(text, state, slot);
     let n = least(lent, numbers.len());
-    say_verdict(b"reorder ", reorder(h, r, &mut numbers[0..n]));
-    say(b":");
+    say_verdict(rt, b"reorder ", reorder(h, r, &mut numbers[0..n]));
+    say(rt, b":");
 }
 
 // o
-fn run_counted(text: &[u8], words: &[u8], state: State) {
+fn run_counted(rt: &impl Print, text: &[u8], words: &[u8], state: State) {
     let slot = number(words, 0);
     let lent = number(words, slot.next);
     let shown = number(words, lent.next);
     let mut numbers = [0i32; 1024];
     count_up(&mut numbers);
-    run_reorder(text, state, slot.value, &mut numbers, lent.value);
-    say_numbers(part(&numbers, 0, shown.value));
-    say_end();
+    run_reorder(rt, text, state, slot.value, &mut numbers, lent.value);
+    say_numbers(rt, part(&numbers, 0, shown.value));
+    say_end(rt);
 }
 
 fn place_in(numbers: &[i32], n: i32) -> usize {
@@ -228,7 +233,7 @@ fn place_in(numbers: &[i32], n: i32) -> usize {
 }
 
 // Each place of a line, and where the number that was there is now.
-fn say_places(words: &[u8], from: usize, numbers: &[i32]) {
+fn say_places(rt: &impl Print, words: &[u8], from: usize, numbers: &[i32]) {
     let mut at = from;
     let mut i = 0usize;
     while i < SLOT_NUMBERS {
@@ -236,29 +241,29 @@ fn say_places(words: &[u8], from: usize, numbers: &[i32]) {
             return;
         }
         let place = number(words, at);
-        say_count(b" ", place.value as u64);
-        say_count(b">", place_in(numbers, one_more(place.value)) as u64);
+        say_count(rt, b" ", place.value as u64);
+        say_count(rt, b">", place_in(numbers, one_more(place.value)) as u64);
         at = place.next;
         i += 1;
     }
 }
 
 // d
-fn run_placed(text: &[u8], words: &[u8], state: State) {
+fn run_placed(rt: &impl Print, text: &[u8], words: &[u8], state: State) {
     let slot = number(words, 0);
     let mut numbers = [0i32; SLOT_NUMBERS];
     count_up(&mut numbers);
-    run_reorder(text, state, slot.value, &mut numbers, SLOT_NUMBERS);
-    say_places(words, slot.next, &numbers);
-    say_end();
+    run_reorder(rt, text, state, slot.value, &mut numbers, SLOT_NUMBERS);
+    say_places(rt, words, slot.next, &numbers);
+    say_end(rt);
 }
 
 // ---- a line
 // e
-fn run_emptied(state: State) -> State {
+fn run_emptied(rt: &impl Print, state: State) -> State {
     let r = emptied();
-    say_count(b"reservoir ", r.length as u64);
-    say_end();
+    say_count(rt, b"reservoir ", r.length as u64);
+    say_end(rt);
     let mut new = state;
     new.stated = r.length;
     new.made_up = NOWHERE;
@@ -280,11 +285,11 @@ fn with_sizes(words: &[u8], c: u8, state: State) -> State {
 }
 
 // A line that changes what the next goes by, and no frame: m, l, e, w, r, h.
-fn set_up(words: &[u8], at: usize, state: State) -> State {
+fn set_up(rt: &impl Print, words: &[u8], at: usize, state: State) -> State {
     let c = byte_at(words, 0);
     let mut new = state;
     if c == b'e' {
-        return run_emptied(state);
+        return run_emptied(rt, state);
     }
     if (c == b'm') | (c == b'l') {
         return with_sizes(words, c, state);
@@ -301,39 +306,39 @@ fn set_up(words: &[u8], at: usize, state: State) -> State {
 }
 
 // A line that changes nothing: #, s, i, z, o, d.
-fn run_call(text: &[u8], words: &[u8], state: State) {
+fn run_call(rt: &impl Print, text: &[u8], words: &[u8], state: State) {
     let c = byte_at(words, 0);
     if c == b'#' {
-        say(words);
-        say_end();
+        say(rt, words);
+        say_end(rt);
     }
     if c == b's' {
-        run_slots(text, words, state);
+        run_slots(rt, text, words, state);
     }
     if c == b'i' {
-        run_side(words);
+        run_side(rt, words);
     }
     if c == b'z' {
-        run_program(words);
+        run_program(rt, words);
     }
     if c == b'o' {
-        run_counted(text, words, state);
+        run_counted(rt, text, words, state);
     }
     if c == b'd' {
-        run_placed(text, words, state);
+        run_placed(rt, text, words, state);
     }
 }
 
-fn run_line(text: &[u8], at: usize, bytes: &mut [u8], state: State) -> State {
+fn run_line(rt: &impl Print, text: &[u8], at: usize, bytes: &mut [u8], state: State) -> State {
     let words = line_at(text, at);
     if byte_at(words, 0) == b'f' {
-        return run_frame(text, at, bytes, state);
+        return run_frame(rt, text, at, bytes, state);
     }
-    run_call(text, words, state);
-    set_up(words, at, state)
+    run_call(rt, text, words, state);
+    set_up(rt, words, at, state)
 }
 
-fn walk(text: &[u8], bytes: &mut [u8]) {
+fn walk(rt: &impl Print, text: &[u8], bytes: &mut [u8]) {
     let mut state = State {
         frame: NOWHERE,
         made_up: NOWHERE,
@@ -345,7 +350,7 @@ fn walk(text: &[u8], bytes: &mut [u8]) {
     let mut at = 0usize;
     while at < text.len() {
         let end = place_of(text, at, b'\n');
-        state = run_line(text, at, &mut *bytes, state);
+        state = run_line(rt, text, at, &mut *bytes, state);
         if text.len() <= end {
             return;
         }
@@ -353,10 +358,11 @@ fn walk(text: &[u8], bytes: &mut [u8]) {
     }
 }
 
-fn main() {
-    let mut text = large_buffer();
-    let mut bytes = buffer();
-    let filled = fill(STDIN_FILENO, &mut text, blank());
+fn main(rt: HostRuntime) {
+    let mut text = [0u8; 65536];
+    let mut bytes = [0u8; 4096];
+    let mut reader = rt.stdin();
+    let filled = fill(&mut reader, &mut text, blank());
     let c = filled.held;
-    walk(unread(&text, c), &mut bytes);
+    walk(&rt, unread(&text, c), &mut bytes);
 }

@@ -2,13 +2,12 @@
 use crate::said::{say, say_put, say_slots};
 use frame::process_frame;
 use input::{Held, taken, unread};
-use io::buffer;
 use lines::{put_end, put_frame, put_refused};
 use reservoir::emptied;
 use standard::{FRAME_NUMBERS, FrameAnswer, Refusal, Reservoir, Verdict};
 
 // What is unread, the reservoir, how many frames were accepted, and whether there is more to do.
-#[derive(Drop)]
+#[derive(Clone, Copy)]
 struct Run {
     held: Held,
     reservoir: Reservoir,
@@ -17,22 +16,22 @@ struct Run {
 }
 
 // After a refusal nothing more is done.
-fn stopped(old: Run, n: u64, why: Refusal) -> Run {
-    let mut out = buffer();
+fn stopped(rt: &impl Print, old: Run, n: u64, why: Refusal) -> Run {
+    let mut out = [0u8; 4096];
     let end = put_refused(&mut out, 0, n, why);
-    say_put(&out, end);
+    say_put(rt, &out, end);
     let mut new = old;
     new.going = false;
     new
 }
 
-fn gone_on(old: Run, n: u64, a: FrameAnswer, numbers: &[i32]) -> Run {
-    let mut out = buffer();
+fn gone_on(rt: &impl Print, old: Run, n: u64, a: FrameAnswer, numbers: &[i32]) -> Run {
+    let mut out = [0u8; 4096];
     let end = put_frame(&mut out, 0, n, a.length as u64);
-    say_put(&out, end);
+    say_put(rt, &out, end);
     let header = a.header;
     let slots = a.slots;
-    say_slots(header, slots, numbers, false);
+    say_slots(rt, header, slots, numbers, false);
     let held = old.held;
     let reservoir = a.reservoir;
     Run {
@@ -43,30 +42,30 @@ fn gone_on(old: Run, n: u64, a: FrameAnswer, numbers: &[i32]) -> Run {
     }
 }
 
-fn tried(frame: &[u8], bytes: &mut [u8], run: Run) -> Run {
+fn tried(rt: &impl Print, frame: &[u8], bytes: &mut [u8], run: Run) -> Run {
     let old = run.reservoir;
-    let n = std::num::wrapping_add_u64(run.frames, 1);
+    let n = run.frames.wrapping_add(1);
     let mut numbers = [0i32; FRAME_NUMBERS];
     let a = process_frame(frame, bytes, old, &mut numbers);
     let verdict = a.verdict;
     match verdict {
-        Verdict::Refused(why) => stopped(run, n, why),
-        Verdict::Accepted => gone_on(run, n, a, &numbers),
+        Verdict::Refused(why) => stopped(rt, run, n, why),
+        Verdict::Accepted => gone_on(rt, run, n, a, &numbers),
     }
 }
 
 // The next frame, if there is more to do.
-fn step(card: &[u8], bytes: &mut [u8], run: Run) -> Run {
+fn step(rt: &impl Print, card: &[u8], bytes: &mut [u8], run: Run) -> Run {
     let held = run.held;
     let frame = unread(card, held);
     if !run.going | (frame.len() == 0) {
         return run;
     }
-    tried(frame, bytes, run)
+    tried(rt, frame, bytes, run)
 }
 
 // A frame has a byte at least, so there are no more frames than bytes.
-fn all_frames(card: &[u8], bytes: &mut [u8]) -> u64 {
+fn all_frames(rt: &impl Print, card: &[u8], bytes: &mut [u8]) -> u64 {
     let mut run = Run {
         held: Held {
             from: 0,
@@ -78,18 +77,18 @@ fn all_frames(card: &[u8], bytes: &mut [u8]) -> u64 {
     };
     let mut turns = 0usize;
     while turns < card.len() {
-        run = step(card, &mut *bytes, run);
+        run = step(rt, card, &mut *bytes, run);
         turns += 1;
     }
     run.frames
 }
 
 // All that the program `slots` writes of a card.
-pub(crate) fn say_program(card: &[u8]) {
-    let mut bytes = buffer();
-    let mut out = buffer();
-    say(b"front end\n");
-    let frames = all_frames(card, &mut bytes);
+pub(crate) fn say_program(rt: &impl Print, card: &[u8]) {
+    let mut bytes = [0u8; 4096];
+    let mut out = [0u8; 4096];
+    say(rt, b"front end\n");
+    let frames = all_frames(rt, card, &mut bytes);
     let end = put_end(&mut out, 0, frames);
-    say_put(&out, end);
+    say_put(rt, &out, end);
 }

@@ -4,7 +4,7 @@ ghost use Rattle.std.specs.Prelude.{◌≤◌};
 use input::{Held, taken, unread};
 use lent_bytes::put;
 
-#[derive(Drop)]
+#[derive(Clone, Copy)]
 pub(crate) struct Parsed {
     pub value: usize,
     pub next: usize,
