@@ -27,9 +27,9 @@ use Rattle.standard.specs.SideInfo.{is_record_under, is_side}
 use Rattle.standard.proofs.SideLaws.{slot_record}
 use Rattle.standard.specs.Slots.{Outcome, slots_of, read_slots, slots_told, numbers_from, records}
 use Rattle.standard.proofs.SlotsLaws.{read-call}
-use Rattle.standard.specs.SlotsLaws as slots_laws
+use Rattle.standard.proofs.SlotsLaws as slots_laws
 use Rattle.standard.proofs.ReservoirLaws.{few_lent}
-use Rattle.standard.specs.ReorderLaws as reorder-laws
+use Rattle.standard.proofs.ReorderLaws as reorder-laws
 use Rattle.standard.specs.Reservoir.{turn_verdict, emptied as nothing, bytes_after}
 use Rattle.standard.specs.Frame.{Step, frame_call, frame_of, no_step}
 use Rattle.standard.proofs.FrameLaws.{call_fits}
@@ -47,7 +47,7 @@ use Rattle.standard.specs.declared.Refusal.TheVariants.{UnfitMemory, FreeBitrate
 use Rattle.huffman.specs.Slot.{slot_numbers, told_count, count_of, numbers_after}
 use Rattle.huffman.specs.declared.HuffmanAnswer.TheVariants.{Uncounted}
 use Rattle.demands.proofs.Calls.{HuffmanCall, slot_said, FrameStep, frame, bytes, reservoir, numbers, SlotsCall, slots_header, slots_info, main_data, slots_numbers, TurnCall, ReorderCall, reorder_header, reorder_record, reorder_numbers, SideInfoCall, IsHeaderCall, IsSideInfoCall, IsRecordCall, MainSizeCall, EmptiedCall, LookupCall, lookup_table, lookup_bits}
-use Rattle.demands.proofs.Made.{lend, answer_of, answers_of, four_of, frame_step, slots_call, side_info_call, reorder_call, turn_call}
+use Rattle.demands.proofs.Made.{lend, lend_mut, answer_of, answers_of, four_of, frame_step, slots_call, side_info_call, reorder_call, turn_call}
 use Rattle.front_end.specs.Calls.{per_rows, call_told, rows_after, frame_step as stepIn, frame_told, slots_step, reorder_step}
 use Rattle.demands.proofs.Exported.{ExportedFrame, ExportedSlots, ExportedReorder}
 use Rattle.demands.proofs.Bounds.{InTurn}
@@ -179,9 +179,9 @@ unfolding slot_numbers pick count_of numbers_after
 huffman_refused = (
   record {
     lifetimes = ([], ([], tt));
-    args = (header.rate, (absent, (lend [], (0, (0, (lend [], tt))))));
+    args = (header.rate, (absent, (lend [], (0, (0, (lend_mut [], tt))))));
     answer = Uncounted UnfitMemory;
-    exit = (header.rate, (absent, (lend [], (0, (0, (lend [], tt))))));
+    exit = (header.rate, (absent, (lend [], (0, (0, (lend_mut [], tt))))));
     promised = (refl, refl);
   },
   refl,
@@ -319,13 +319,13 @@ exported s lent stated d rows =
     let p = stepIn s lent stated (length d) (length rows) in
     record {
       lifetimes = ([], ([], ([], ([], tt))));
-      args = (lend s, (lend lent, (stated, (lend d, (lend rows, tt)))));
+      args = (lend s, (lend_mut lent, (stated, (lend_mut d, (lend_mut rows, tt)))));
       answer = frame_told stated p;
       exit = (
         lend s,
         (
-          lend (bytes_after lent p.kept),
-          (stated, (lend (numbers_from 0 p.slots d), (lend (rows_after p.verdict p.info.slots (slots_told p.slots) rows), tt))),
+          lend_mut (bytes_after lent p.kept),
+          (stated, (lend_mut (numbers_from 0 p.slots d), (lend_mut (rows_after p.verdict p.info.slots (slots_told p.slots) rows), tt))),
         ),
       );
       promised = record { answer = refl; bytes = refl; numbers-are = refl; rows_are = refl };
@@ -344,9 +344,9 @@ unfolding slots_step pick verdict_of told_or numbers_from rows_after
 exported-slots = (
   record {
     lifetimes = ([], ([], ([], ([], tt))));
-    args = (lend [], (lend [], (lend [], (lend [], tt))));
+    args = (lend [], (lend [], (lend_mut [], (lend_mut [], tt))));
     answer = call_told (Refused UnfitMemory);
-    exit = (lend [], (lend [], (lend [], (lend [], tt))));
+    exit = (lend [], (lend [], (lend_mut [], (lend_mut [], tt))));
     promised = record { answer = refl; numbers-are = refl; rows_are = refl };
   },
   refl,
@@ -357,9 +357,9 @@ unfolding reorder_step pick verdict_of told_or
 exported-reorder = (
   record {
     lifetimes = ([], ([], tt));
-    args = (lend [], (0, (lend [], tt)));
+    args = (lend [], (0, (lend_mut [], tt)));
     answer = call_told (Refused UnfitMemory);
-    exit = (lend [], (0, (lend [], tt)));
+    exit = (lend [], (0, (lend_mut [], tt)));
     promised = record { answer = refl; numbers-are = refl };
   },
   refl,

@@ -6,6 +6,7 @@ use Prim.Native.Nat.{ℕ, zero, suc, ◌-◌}
 use lib.IntN.{ℤ}
 use lib.ListN.{length, replicate}
 use denote.Ref.{Bor}
+use denote.MutBor.{MutBor}
 use Rattle.standard.specs.Told.{verdict_of, told_or}
 use Rattle.standard.specs.Refusals.{told_header, Answers}
 use Rattle.standard.specs.Header.{header_of}
@@ -28,6 +29,10 @@ use Rattle.demands.proofs.Calls.{HeaderCall, SideInfoCall, SlotsCall, FrameStep,
 -- lent, with this value
 abbrev pub lend : {X : Type 0} → X → Bor X
 lend x = record { ref_ptr = (0, 0); now = x }
+
+-- lent to be changed
+abbrev pub lend_mut : {X : Type 0} → X → MutBor X
+lend_mut x = record { ref_ptr = (0, 0); ghost_name = 0; now = x }
 
 abbrev pub header_call : (s : List ℕ) (r : HeaderAnswer) → told_header r ≡ header_of s → HeaderCall
 header_call s r e = record { lifetimes = ([], tt); args = (lend s, tt); answer = r; exit = (lend s, tt); promised = e }
@@ -71,9 +76,9 @@ slots_call h i s d v e =
     let os = told_or [] (read_slots h i s (length d)) in
     record {
       lifetimes = ([], ([], tt));
-      args = (h, (i, (lend s, (lend d, tt))));
+      args = (h, (i, (lend s, (lend_mut d, tt))));
       answer = record { verdict = v; slots = four_of os };
-      exit = (h, (i, (lend s, (lend (numbers_from 0 os d), tt))));
+      exit = (h, (i, (lend s, (lend_mut (numbers_from 0 os d), tt))));
       promised = record { verdict = e; slots = four_told os; numbers = refl };
     }
 
@@ -82,10 +87,10 @@ frame_step s lent old d v e =
     let p = frame_call s lent old.length (length d) in
     record {
       lifetimes = ([], ([], ([], tt)));
-      args = (lend s, (lend lent, (old, (lend d, tt))));
+      args = (lend s, (lend_mut lent, (old, (lend_mut d, tt))));
       answer =
           record { verdict = v; header = p.header; info = p.info; length = p.length; slots = four_of p.slots; reservoir = reservoir_after old p.kept };
-      exit = (lend s, (lend (bytes_after lent p.kept), (old, (lend (numbers_from 0 p.slots d), tt))));
+      exit = (lend s, (lend_mut (bytes_after lent p.kept), (old, (lend_mut (numbers_from 0 p.slots d), tt))));
       promised =
           record {
             verdict = e;
@@ -103,9 +108,9 @@ unfoldable pub reorder_call : (h : FrameHeader) (r : SlotRecord) (d : List ℤ) 
 reorder_call h r d v e =
     record {
       lifetimes = ([], tt);
-      args = (h, (r, (lend d, tt)));
+      args = (h, (r, (lend_mut d, tt)));
       answer = v;
-      exit = (h, (r, (lend (told_or d (reorder_of h r d)), tt)));
+      exit = (h, (r, (lend_mut (told_or d (reorder_of h r d)), tt)));
       promised = record { verdict = e; value = refl };
     }
 
@@ -115,8 +120,8 @@ turn_call lent old begin main v e =
     let t = turn_in lent old.length begin main in
     record {
       lifetimes = ([], ([], tt));
-      args = (lend lent, (old, (begin, (lend main, tt))));
+      args = (lend_mut lent, (old, (begin, (lend main, tt))));
       answer = record { verdict = v; reservoir = reservoir_after old (turn_kept t) };
-      exit = (lend (bytes_after lent (turn_kept t)), (old, (begin, (lend main, tt))));
+      exit = (lend_mut (bytes_after lent (turn_kept t)), (old, (begin, (lend main, tt))));
       promised = record { verdict = e; reservoir = refl; bytes = refl };
     }

@@ -18,7 +18,7 @@ use Rattle.standard.proofs.HeaderBytes.{header_read, header-known}
 use Rattle.standard.specs.Record.{absent, shape_of, is_mixed}
 use Rattle.standard.specs.SideInfo.{side_of}
 use Rattle.standard.proofs.SideBytes.{side_read, slot_read}
-use Rattle.standard.specs.RecordBits as record-laws
+use Rattle.standard.proofs.RecordBits as record-laws
 use Rattle.standard.specs.declared.FrameHeader.{FrameHeader}
 use Rattle.standard.specs.declared.SampleRate.TheVariants.{Hz8000}
 use Rattle.standard.specs.declared.BlockType.TheVariants.{Long}
