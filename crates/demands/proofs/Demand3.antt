@@ -14,8 +14,7 @@ use lib.IntN.{ℤ}
 use lib.ListN.{length}
 use Rattle.standard.specs.Sizes.{per_slot, per_frame}
 use Rattle.standard.specs.ToldLaws.{clash}
-use Rattle.standard.specs.Told.{told, told_or, verdict_of}
-use Rattle.standard.specs.Refusals.{number_of}
+use Rattle.standard.specs.Told.{told_or, verdict_of}
 use Rattle.standard.specs.Header.{is_header}
 use Rattle.standard.specs.SideInfo.{is_side}
 use Rattle.standard.specs.Slots.{Outcome, stopped, holds, slots_of, slot_told, lacking_slot, slots_told, numbers_from, read_slots, start_of, records, outcome_of, part_of, own_of}

@@ -2,7 +2,7 @@
 -- call on main data and the frame step alike; then what these two calls' promises make of it.
 use mathlib.Core.Path.{◌≡◌, refl, sym, ap, subst, ◌∙◌}
 use mathlib.Core.Bool.{Bool, true, false, ◌&&◌}
-use mathlib.Core.List.{List, [], ◌++◌, map}
+use mathlib.Core.List.{List, [], ◌++◌}
 use Prim.Native.Nat.{ℕ, ◌+◌, ◌-◌, ◌*◌, ◌≤◌, ◌<◌}
 use native.Mathlib.Decide.{dec_le, dec_lt}
 use native.Mathlib.Omega.{arith}
@@ -10,7 +10,7 @@ use lib.IntN.{ℤ}
 use lib.ListN.{length, get_or, take, drop}
 use lib.Seq.{drop-drop}
 use Rattle.standard.specs.Sizes.{per_slot, per_frame}
-use Rattle.standard.specs.Told.{Told, told_or, refused}
+use Rattle.standard.specs.Told.{Told, told_or}
 use Rattle.standard.specs.ToldLaws.{both_of, clash}
 use Rattle.standard.specs.Slots.{Outcome, stopped, holds, slot_told, lacking_slot, slots_told, numbers_from, read_slots, part_of, own_of, outcome_of}
 use Rattle.standard.proofs.SlotsLaws.{told_at, lacking_at, own_numbers, past-slots, few_numbers, made-up_call, read-call}

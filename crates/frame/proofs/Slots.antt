@@ -1,20 +1,19 @@
 -- One slot by its parts: the factors, and the numbers from the bits after them.
-use mathlib.Core.Path.{◌≡◌, refl, sym, ap, ◌∙◌}
+use mathlib.Core.Path.{◌≡◌, sym, ap, ◌∙◌}
 use mathlib.Core.Bool.{Bool, true, false, ◌&&◌}
-use mathlib.Core.List.{List, [], ◌∷◌}
-use Prim.Native.Nat.{ℕ, ◌+◌, ◌-◌, ◌*◌, ◌≤◌, ◌<◌}
+use mathlib.Core.List.{List}
+use Prim.Native.Nat.{ℕ, ◌+◌, ◌-◌, ◌≤◌, ◌<◌}
 use native.Mathlib.Omega.{arith}
-use lib.Dec.{ltb}
 use lib.IntN.{ℤ}
-use lib.ListN.{length, drop, replicate}
+use lib.ListN.{length}
 use borrow.Author.Tests.{lt-ltb, le-ltb}
-use Rattle.standard.specs.Told.{Told, pick, told, refused}
+use Rattle.standard.specs.Told.{told, refused}
 use Rattle.standard.specs.ToldLaws.{picked, passed}
 use Rattle.standard.specs.Bits.{bits, between}
 use Rattle.standard.specs.BitsLaws.{drop_bits}
 use Rattle.standard.specs.Codes.{word_of}
 use Rattle.standard.specs.Record.{shape_of}
-use Rattle.standard.specs.Factors.{Source, plan_of, sources_of, plan_bits, factors_from, long_factors, short_factors}
+use Rattle.standard.specs.Factors.{Source, plan_of, sources_of, plan_bits, long_factors, short_factors}
 use Rattle.standard.proofs.FactorsLaws.{factors_bits}
 use Rattle.standard.specs.Numbers.{Numbers, halted, got, numbers_of}
 use Rattle.standard.proofs.RefusalsLaws.{apart, one-reason}

@@ -128,12 +128,7 @@ fn slots_under(
 }
 
 // The slots of a frame from given main data of any length; of the frame only the header and the side information are read.
-pub fn front_end_slots(
-    frame: &[u8],
-    main: &[u8],
-    numbers: &mut [i32],
-    rows: &mut [u16],
-) -> CallTold
+pub fn front_end_slots(frame: &[u8], main: &[u8], numbers: &mut [i32], rows: &mut [u16]) -> CallTold
     ensures { SlotsDone numbers.old rows.old (records_in frame.now)
         (slots_step frame.now main.now (length numbers.old) (length rows.old)) result numbers.new
         rows.new }

@@ -10,7 +10,7 @@ use lib.Dec.{ltb, leb, eqb}
 use lib.Ieee.{binary32, of_bits, of_int}
 use Rattle.standard.specs.Told.{told, refused}
 use Rattle.standard.specs.ToldLaws.{picked, passed, never, no_refusal, told_is}
-use Rattle.standard.specs.Bits.{bit_at, bits, field, flag, field_at}
+use Rattle.standard.specs.Bits.{bit_at, field, flag, field_at}
 use Rattle.standard.specs.BitsLaws.{field-bits, flag-bits, field_at_cut}
 use Rattle.standard.specs.Record.{gain_of, compress_width, record_width, scale_at, count1_at, preflag_of, block_of, shape_by, is_mixed, long_of, switched_of, record_in, record_of}
 use Rattle.standard.specs.declared.BlockType.{BlockType}

@@ -1,5 +1,5 @@
 -- A step of the register is one to one, and bits that differ lead apart: so one flipped bit changes the check word, whatever comes after it.
-use Rattle.std.specs.Prelude.{◌≡◌, refl, Bool, true, false, not, List, [], ◌∷◌, ◌++◌, ℕ, zero, suc, ◌<◌, length, get_or, take, drop, replicate}
+use Rattle.std.specs.Prelude.{◌≡◌, refl, Bool, true, false, not, List, [], ◌∷◌, ◌++◌, ℕ, zero, suc, ◌<◌, length, get_or, take, replicate}
 use Rattle.std.proofs.Common.{sym, ap, ◌∙◌, add-one, arith, length-append}
 use Rattle.standard.specs.ToldLaws.{never}
 use Rattle.standard.specs.Crc.{differ, added, taps, feed, fed, check_word}

@@ -1,6 +1,6 @@
 -- Laws of scale factors. A plan is read source by source, part after part, and by its own bits alone; every plan is four groups, of 21
 -- factors or 36, and of at most 5 bits a factor, whatever a record says; and what is not shared does not go by granule 0.
-use Rattle.std.specs.Prelude.{◌≡◌, refl, Bool, true, false, ◌&&◌, List, [], ◌∷◌, ◌++◌, ℕ, zero, suc, ◌+◌, ◌-◌, ◌*◌, ◌/◌, ◌%◌, ◌<◌, ◌≤◌, ltb, leb, eqb, length, get_or, take, drop, replicate}
+use Rattle.std.specs.Prelude.{◌≡◌, refl, Bool, true, false, ◌&&◌, List, [], ◌∷◌, ◌++◌, ℕ, zero, suc, ◌+◌, ◌*◌, ◌/◌, ◌%◌, ◌<◌, ◌≤◌, ltb, leb, eqb, length, get_or, take, drop, replicate}
 use Rattle.std.proofs.Common.{sym, ap, ◌∙◌, subst, zero-add, zero-mul, suc-mul, le_refl, mul-le-mul, arith, lt-ltb, le-ltb, leb-true, eqb-true, length-append, length-drop, take-take, drop-drop}
 use Rattle.std.proofs.Math.Decide.{dec_lt}
 use Rattle.std.proofs.Math.ListN.{length-replicate}

@@ -9,7 +9,7 @@ use Prim.Native.Nat.{ℕ, zero, suc, ◌+◌, ◌-◌, ◌*◌, ◌≤◌, ◌<�
 use Rattle.std.proofs.Math.Decide.{dec_le}
 use native.Mathlib.Omega.{arith}
 use Rattle.std.proofs.Math.ListN.{get_or}
-use Rattle.standard.specs.Told.{Told, refused, told, pick}
+use Rattle.standard.specs.Told.{refused, told}
 use Rattle.standard.specs.ToldLaws.{picked, passed, never, no_refusal}
 use Rattle.standard.specs.Bits.{one, bit_at, bits, between, value, field_at}
 use Rattle.standard.specs.BitsLaws.{length-bits, bits-add, get_d_bits, byte-value}
@@ -18,7 +18,7 @@ use Rattle.standard.specs.Crc.{check_word, covered, crc_fits}
 use Rattle.standard.proofs.CrcLaws.{fed-long, flipped}
 use Rattle.standard.specs.Header.{is_mpeg1, is_two, last_bytes, second_byte, header_of, is_header, header_size, side_bytes, side_size}
 use Rattle.standard.specs.SideInfo.{side_from, side_of}
-use Rattle.standard.specs.Frame.{Step, no_step, frame_of}
+use Rattle.standard.specs.Frame.{no_step, frame_of}
 use Rattle.standard.proofs.FrameLaws.{frame-no_side}
 use Rattle.standard.specs.declared.FrameHeader.{FrameHeader}
 use Rattle.standard.specs.declared.SideInfo.{SideInfo}

@@ -1,15 +1,15 @@
 -- A frame's step by its stages, and what is answered at each.
-use Rattle.std.specs.Prelude.{◌≡◌, true, ℕ, ◌+◌, ◌≤◌, ◌<◌, ltb, ℤ, drop}
+use Rattle.std.specs.Prelude.{◌≡◌, ℕ, ◌+◌, ◌≤◌, ◌<◌, ltb, ℤ, drop}
 use Rattle.std.proofs.Math.Path.{refl, sym, ap}
 use Rattle.std.proofs.Common.{◌∙◌, arith, lt-ltb, le-ltb}
-use mathlib.Core.List.{List, [], map}
+use mathlib.Core.List.{List, []}
 use Rattle.std.proofs.Math.ListN.{length, take, length-append}
 use Rattle.std.proofs.Math.Seq.{take_at}
-use Rattle.standard.specs.Told.{Told, refused, told}
+use Rattle.standard.specs.Told.{refused, told}
 use Rattle.standard.specs.ToldLaws.{picked, passed, either_left, either_right, neither}
 use Rattle.standard.proofs.RefusalsLaws.{unlike}
-use Rattle.standard.specs.Header.{header_of, header_size, side_size, main_size, frame_length, no_header, is_header}
-use Rattle.standard.specs.SideInfo.{side_of, no_side, is_side}
+use Rattle.standard.specs.Header.{header_of, header_size, side_size, main_size, frame_length, no_header}
+use Rattle.standard.specs.SideInfo.{side_of, no_side}
 use Rattle.standard.specs.Slots.{Outcome, slots_of, slots_told, numbers_from}
 use Rattle.standard.specs.Reservoir.{Turn, short, reached, turn_of, unfit, reservoir_after, bytes_after, turn_verdict, turn_kept, Turned}
 use Rattle.standard.specs.Frame.{Step, no_step, short_step, full_step, with_turn, with_side, with_header, frame_of, frame_call, FrameRead}

@@ -2,7 +2,6 @@
 -- The sizes rest on two computed tests, one over all bitrates and rates and one over those of a version.
 use Rattle.std.specs.Prelude.{◌≡◌, refl, Bool, true, false, ◌&&◌, List, [], ◌∷◌, map, ℕ, ◌+◌, ◌*◌, ◌/◌, ◌^◌, ◌≤◌, ◌<◌, leb, eqb, length, get_or}
 use Rattle.std.proofs.Common.{sym, ap, subst, ◌∙◌, arith, eqb-true, eq-eqb, ltb-true, leb-true}
-use Rattle.standard.specs.Told.{pick}
 use Rattle.standard.specs.ToldLaws.{both_of}
 use Rattle.standard.specs.Bits.{one}
 use Rattle.standard.specs.BitsLaws.{one-le}

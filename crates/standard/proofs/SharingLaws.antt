@@ -1,6 +1,6 @@
 -- Where nothing is shared, granule 0's factors do not matter: of a short block never, of any block where no sharing bit is in force. So a slot
 -- depends on its own bits and, only where it shares, on its channel's granule 0 slot.
-use Rattle.std.specs.Prelude.{◌≡◌, refl, Bool, true, false, ◌&&◌, List, [], ◌∷◌, ◌++◌, ℕ, zero, suc, ltb, length, get_or, take, drop, replicate}
+use Rattle.std.specs.Prelude.{◌≡◌, refl, Bool, false, ◌&&◌, List, [], ◌∷◌, ℕ, zero, suc, ltb, get_or, drop}
 use Rattle.std.proofs.Common.{sym, ap, ◌∙◌}
 use Rattle.standard.specs.Told.{pick}
 use Rattle.standard.specs.ToldLaws.{neither_of}

@@ -9,7 +9,7 @@ use Prim.Native.Nat.{ℕ, zero, suc, ◌+◌, ◌-◌, ◌*◌, ◌≤◌, ◌<�
 use Rattle.std.proofs.Math.Decide.{dec_le}
 use native.Mathlib.Omega.{arith}
 use Rattle.std.proofs.lemmas.Bool.{lt-leb}
-use Rattle.std.proofs.Math.ListN.{length, get_or, length-append, get_or-map}
+use Rattle.std.proofs.Math.ListN.{length, get_or, length-append}
 use Rattle.std.proofs.lemmas.List.{length-replicate}
 use Rattle.std.proofs.lemmas.List.Edits.{length-paste, drop-paste}
 use Rattle.standard.specs.Told.{Told, told, told_or, verdict_of, refused}
@@ -17,7 +17,7 @@ use Rattle.standard.specs.ToldLaws.{picked, passed, never, both}
 use Rattle.standard.specs.Bits.{bits}
 use Rattle.standard.specs.BitsLaws.{bits-append}
 use Rattle.standard.specs.CopyLaws.{take-drop}
-use Rattle.standard.specs.Header.{is_header, granules, channel_count}
+use Rattle.standard.specs.Header.{is_header}
 use Rattle.standard.specs.Record.{past_record}
 use Rattle.standard.proofs.HaltLaws.{allowed, slot_allowed, is_other, not_missing}
 use Rattle.standard.specs.SideInfo.{is_side}
@@ -29,7 +29,6 @@ use Rattle.standard.specs.declared.SlotRecord.{SlotRecord}
 use Rattle.standard.specs.declared.SideInfo.{SideInfo}
 use Rattle.standard.specs.declared.SlotsAnswer.{SlotsAnswer}
 use Rattle.standard.specs.declared.SlotAnswer.{SlotAnswer}
-use Rattle.standard.specs.declared.SlotOutcome.TheVariants.{Lacking}
 use Rattle.standard.specs.declared.Verdict.TheVariants.{Accepted, Refused}
 use Rattle.standard.specs.declared.Refusal.{Refusal}
 use Rattle.standard.specs.declared.Refusal.TheVariants.{UnfitMemory, MadeUpRecord, MissingBits}

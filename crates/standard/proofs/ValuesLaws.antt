@@ -1,5 +1,5 @@
 -- Each value of a table stands in its published list exactly once, and nothing else stands in it.
-use Rattle.std.specs.Prelude.{◌≡◌, refl, Bool, true, false, ◌&&◌, ◌||◌, List, [], ◌∷◌, ◌++◌, map, ℕ, zero, suc, ◌+◌, ◌*◌, ◌<◌, leb, eqb, get_or}
+use Rattle.std.specs.Prelude.{◌≡◌, refl, Bool, true, false, ◌&&◌, ◌||◌, List, [], ◌∷◌, ◌++◌, map, ℕ, zero, suc, ◌+◌, ◌<◌, leb, eqb, get_or}
 use Rattle.std.proofs.Common.{sym, ap, ◌∙◌, arith, leb-true, eqb-true, ne_eqb}
 use Rattle.std.proofs.Math.ListN.{get_or-map}
 use Rattle.standard.specs.Bits.{one}

@@ -1,6 +1,6 @@
 -- Worked from bytes (docs/RULES.md, Frame F): the starred rows in one table with a single statement, and the others, computed from the definition.
 use Rattle.std.specs.Prelude.{◌≡◌, refl, List, [], ◌∷◌, ◌++◌, ℕ, zero, suc, ◌*◌, ℤ, pos, negsuc, length, take, replicate, set}
-use Rattle.standard.specs.Told.{refused, pick, told_or}
+use Rattle.standard.specs.Told.{pick, told_or}
 use Rattle.standard.specs.Bits.{bit_at, bits, between, value_from, value, field, flag, field_at}
 use Rattle.standard.specs.Rows.{member, later, place}
 use Rattle.standard.specs.Crc.{differ, added, taps, feed, fed, check_word, covered, crc_fits}

@@ -1,6 +1,6 @@
 -- A slot's scale factors (11172-3, 2.4.1.7 and 2.4.2.7; 13818-3, 2.4.3.2), from exactly its own bits. A plan says of each factor in turn
 -- where it comes from; one rule reads any plan.
-use Rattle.std.specs.Prelude.{Bool, true, false, List, [], ◌∷◌, ◌++◌, ℕ, zero, suc, ◌+◌, ◌-◌, ◌%◌, length, get_or, take, drop, replicate}
+use Rattle.std.specs.Prelude.{Bool, true, false, List, [], ◌∷◌, ◌++◌, ℕ, zero, suc, ◌+◌, ◌-◌, ◌%◌, get_or, take, drop, replicate}
 use Rattle.standard.specs.Told.{pick}
 use Rattle.standard.specs.Bits.{value}
 use Rattle.standard.specs.Lengths.{slen1, slen2, low_lengths, low_counts}

@@ -1,6 +1,6 @@
 -- One frame, from its bytes and what the frames before it left (11172-3, 2.4.1.1 to 2.4.1.7): header, side information, main data, slots.
 -- The first fault decides, in the order of docs/REFUSALS.md.
-use Rattle.std.specs.Prelude.{◌≡◌, Bool, ◌||◌, List, [], map, ℕ, ◌+◌, ltb, ℤ, length, take, drop}
+use Rattle.std.specs.Prelude.{◌≡◌, ◌||◌, List, [], ℕ, ◌+◌, ltb, ℤ, length, take, drop}
 use Rattle.standard.specs.Sizes.{per_frame}
 use Rattle.standard.specs.Told.{Told, refused, told, pick}
 use Rattle.standard.specs.Header.{header_of, header_size, side_size, main_size, frame_length, no_header}

@@ -1,7 +1,6 @@
 -- `bits::bit` meets its contract: within the slice it is the definition's own expression, and past it no byte is left.
 -- Assumes nothing.
 use mathlib.Core.Path.{refl, sym}
-use borrow.Author.Rules.{rules}
 use Rattle.standard.specs.Bits.{bit_at}
 use Rattle.standard.specs.BitsLaws.{bit_at_past}
 use Rattle.bits.proofs.bit.Goals as goal

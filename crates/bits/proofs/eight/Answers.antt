@@ -1,6 +1,5 @@
 -- `bits::eight` meets its contract: bytes are read without a test for each where eight are there. Assumes nothing.
 use native.Mathlib.Omega.{arith}
-use borrow.Author.Rules.{rules}
 use Rattle.bits.proofs.eight.Goals as goal
 
 pub near_eight-requires : goal.near_eight-requires

@@ -1,6 +1,5 @@
 -- `bits::far_eight` meets its contract: the bits of eight bytes spell them, four and four. Assumes nothing.
 use Rattle.bits.proofs.Eights.{four_up, eight_fits, eight_spelt}
-use borrow.Author.Rules.{rules}
 use Rattle.bits.proofs.far_eight.Goals as goal
 
 pub overflow_mul-result : goal.overflow_mul-result

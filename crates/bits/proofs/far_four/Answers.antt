@@ -1,6 +1,5 @@
 -- `bits::far_four` meets its contract: the bits of four bytes spell them in turn. Assumes nothing.
 use Rattle.standard.specs.BitsLaws.{four_bytes}
-use borrow.Author.Rules.{rules}
 use Rattle.bits.proofs.far_four.Goals as goal
 
 pub returns : goal.returns

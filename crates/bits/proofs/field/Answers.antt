@@ -8,7 +8,6 @@ use native.Mathlib.Omega.{arith}
 use lib.Pow.{pow_mono, pow_pos}
 use Rattle.standard.specs.Bits.{field_at}
 use Rattle.standard.specs.BitsLaws.{field-in_four, field_at_lt}
-use borrow.Author.Rules.{rules}
 use Rattle.bits.proofs.field.Goals as goal
 
 -- the divisor is 2 ^ m

@@ -1,7 +1,6 @@
 -- `bits::there` meets its contract: an element of a slice of bytes is below 256. Assumes nothing.
 use mathlib.Core.Path.{refl}
 use native.Mathlib.Omega.{arith}
-use borrow.Author.Rules.{rules}
 use Rattle.bits.proofs.there.Goals as goal
 
 -- was the goal overflow-cast-result

@@ -1,7 +1,6 @@
 -- `crc::fits` meets its contract: the two strings one after the other are what is covered.
 -- Assumes nothing.
 use Rattle.crc.proofs.Strings.{fits_is}
-use borrow.Author.Rules.{rules}
 use Rattle.crc.proofs.fits.Goals as goal
 
 pub returns : goal.returns

@@ -1,10 +1,9 @@
 -- `crc::parity` meets its contract: the bits are folded to four.
 -- Assumes nothing.
-use mathlib.Core.Path.{◌≡◌, refl, sym, ap, ◌∙◌}
+use mathlib.Core.Path.{sym}
 use native.Mathlib.Omega.{arith}
 use Rattle.standard.specs.Written.{bits_of, value-bits_of}
 use Rattle.crc.proofs.Words.{by_folding}
-use borrow.Author.Rules.{rules}
 use Rattle.crc.proofs.parity.Goals as goal
 
 pub returns : goal.returns

@@ -1,12 +1,11 @@
 -- `crc::with_byte` meets its contract, by the law of the register after a byte.
 -- Assumes nothing.
-use mathlib.Core.Path.{◌≡◌, refl, sym, ap, ◌∙◌}
+use mathlib.Core.Path.{sym}
 use Prim.Native.Nat.{◌/◌, ◌^◌, ◌<◌}
 use native.Mathlib.Omega.{arith}
 use lib.Bits.{xor_lt}
 use Rattle.standard.specs.Written.{bits_of, value-bits_of}
 use Rattle.crc.proofs.Words.{by_shifts}
-use borrow.Author.Rules.{rules}
 use Rattle.crc.proofs.with_byte.Goals as goal
 
 pub parity-requires : goal.parity-requires

@@ -1,13 +1,10 @@
 -- `crc::with_bytes` meets its contract: what is left to go in comes to the whole.
 -- Assumes nothing.
-use mathlib.Core.Path.{sym}
-use Prim.Native.Nat.{◌*◌, ◌-◌, ◌^◌, ◌<◌}
-use native.Mathlib.Omega.{arith}
+use Prim.Native.Nat.{◌*◌, ◌-◌}
 use Rattle.standard.specs.Bits.{between, value}
 use Rattle.standard.specs.Written.{bits_of}
 use Rattle.standard.specs.Crc.{fed}
-use Rattle.crc.proofs.Strings.{Feeding, begin_feeding, feed-on, end-feeding}
-use borrow.Author.Rules.{rules}
+use Rattle.crc.proofs.Strings.{Feeding}
 use Rattle.crc.proofs.with_bytes.Given as goal
 
 abbrev pub invariant-loop-i : goal.invariant-loop-i

@@ -1,6 +1,5 @@
 -- `derived::bps` meets its contract: in each arm the bitrate is the arm's, and the definition computes at it. Assumes nothing.
 use mathlib.Core.Path.{sym, ap}
-use borrow.Author.Rules.{rules}
 use Rattle.standard.specs.Header.{bps}
 use Rattle.derived.proofs.bps.Goals as goal
 

@@ -1,6 +1,5 @@
 -- `derived::number_of` meets its contract: in each arm the refusal is the arm's, and the definition computes at it. Assumes nothing.
 use mathlib.Core.Path.{sym, ap}
-use borrow.Author.Rules.{rules}
 use Rattle.standard.specs.Refusals.{number_of}
 use Rattle.derived.proofs.number_of.Goals as goal
 

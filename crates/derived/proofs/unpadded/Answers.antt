@@ -1,5 +1,4 @@
 -- `derived::unpadded` meets its contract: the product of the largest numbers fits, and no rate is 0. Assumes nothing.
-use borrow.Author.Rules.{rules}
 use native.Mathlib.Omega.{arith}
 use Rattle.standard.proofs.HeaderRows.{product_range, hz-range}
 use Rattle.derived.proofs.unpadded.Goals as goal

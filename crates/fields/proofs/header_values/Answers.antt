@@ -1,7 +1,6 @@
 -- `fields::header_values` meets its contract: each number is the definition's of its field.
 -- Assumes nothing.
 use mathlib.Core.Path.{refl}
-use borrow.Author.Rules.{rules}
 use Rattle.fields.specs.Values.{header_values}
 use Rattle.fields.proofs.header_values.Goals as goal
 

@@ -1,7 +1,6 @@
 -- `fields::is_told` meets its contract: by cases of the verdict; a refusal is known by its number.
 -- Assumes nothing.
 use mathlib.Core.Path.{sym, ap}
-use borrow.Author.Rules.{rules}
 use Rattle.fields.specs.Values.{is_told}
 use Rattle.fields.proofs.is_told.Goals as goal
 

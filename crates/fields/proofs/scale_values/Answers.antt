@@ -1,7 +1,6 @@
 -- `fields::scale_values` meets its contract: each number is the definition's of its field.
 -- Assumes nothing.
 use mathlib.Core.Path.{refl}
-use borrow.Author.Rules.{rules}
 use Rattle.fields.specs.Values.{scale_values}
 use Rattle.fields.proofs.scale_values.Goals as goal
 

@@ -1,7 +1,6 @@
 -- `fields::side_values` meets its contract: each number is the definition's of its field.
 -- Assumes nothing.
 use mathlib.Core.Path.{refl}
-use borrow.Author.Rules.{rules}
 use Rattle.fields.specs.Values.{side_values}
 use Rattle.fields.proofs.side_values.Goals as goal
 

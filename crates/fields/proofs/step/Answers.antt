@@ -3,7 +3,6 @@
 use mathlib.Core.Path.{sym, ap, ◌∙◌}
 use mathlib.Core.Bool.{Bool}
 use Prim.Native.Nat.{ℕ}
-use borrow.Author.Rules.{rules}
 use Rattle.standard.specs.Told.{pick}
 use Rattle.fields.specs.Values.{step_of}
 use Rattle.fields.proofs.step.Goals as goal

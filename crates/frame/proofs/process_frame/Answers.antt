@@ -1,12 +1,10 @@
 -- `frame::process_frame` meets its contract: its tests are the definition's, and the first that fails decides.
 -- Assumes nothing.
 use mathlib.Core.Path.{refl, sym, ap, ◌∙◌, subst}
-use lib.ListN.{length, take}
 use Rattle.standard.specs.Refusals.{told_header}
 use Rattle.standard.specs.Frame.{FrameRead}
 use Rattle.standard.proofs.FrameLaws.{call_few_bytes, call_much_stated, call_few_numbers, call_fits, step-refused, frame-no_header}
 use Rattle.frame.specs.Reasons.{reason_of}
-use borrow.Author.Rules.{rules}
 use Rattle.standard.specs.Told.{refused}
 use Rattle.frame.proofs.process_frame.Goals as goal
 
@@ -30,8 +28,7 @@ returns-in_default c =
     c.refused-in_default.ensures refl refl
 
 pub with_header-requires : goal.with_header-requires
-with_header-requires c =
-    (
+with_header-requires c = (
   c.if-bytes-lt-RESERVOIR_BYTES.false,
   c.if-reservoir-gt-RESERVOIR_BYTES.false,
   c.if-numbers-lt-FRAME_NUMBERS.false,

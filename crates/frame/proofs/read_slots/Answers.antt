@@ -4,7 +4,6 @@ use mathlib.Core.Path.{refl, sym, ◌∙◌}
 use mathlib.Core.Bool.{◌&&◌}
 use Rattle.standard.specs.ToldLaws.{both_of}
 use Rattle.standard.proofs.SlotsLaws.{few_numbers, made-up_call, read-call, slots-refused, slots-told}
-use borrow.Author.Rules.{rules}
 use Rattle.frame.proofs.read_slots.Goals as goal
 
 pub returns-then-numbers-lt-FRAME_NUMBERS : goal.returns-then-numbers-lt-FRAME_NUMBERS

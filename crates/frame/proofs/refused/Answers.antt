@@ -2,13 +2,11 @@
 -- Assumes nothing.
 use mathlib.Core.Path.{refl}
 use Rattle.standard.specs.Told.{told_or, refused}
-use borrow.Author.Rules.{rules}
 use Rattle.frame.proofs.refused.Goals as goal
 
 pub returns : goal.returns
 unfolding told_or
-returns c =
-    (
+returns c = (
   refl,
   c.no_header-header.ensures,
   (c.no_side-a.ensures (refused c.args.reason) refl).value,

@@ -8,7 +8,6 @@ use Rattle.standard.proofs.HeaderBytes.{header-known}
 use Rattle.standard.proofs.SideBytes.{side_known}
 use Rattle.standard.proofs.FrameLaws.{step-refused, frame-no_side, frame-absent}
 use Rattle.frame.proofs.Stages.{side_read, parts, main_length, whole-frame}
-use borrow.Author.Rules.{rules}
 use Rattle.frame.proofs.with_header.Goals as goal
 
 pub slice_bounds-with_main-end : goal.slice_bounds-with_main-end

@@ -1,11 +1,9 @@
 -- `frame::with_main` meets its contract: what is left of the reservoir is what the slots are read from.
 -- Assumes nothing.
 use mathlib.Core.Path.{refl, sym}
-use native.Mathlib.Omega.{arith}
 use lib.Seq.{length-take-le}
 use Rattle.standard.proofs.FrameLaws.{kept_within, step-short, step-full}
 use Rattle.frame.proofs.Stages.{fits_turn}
-use borrow.Author.Rules.{rules}
 use Rattle.frame.proofs.with_main.Goals as goal
 
 pub returns-in-Refused : goal.returns-in-Refused

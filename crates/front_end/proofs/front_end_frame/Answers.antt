@@ -1,7 +1,6 @@
 -- `front_end_frame` meets its contract: the frame is the frame step's, and its answer is laid out. Assumes nothing.
 use mathlib.Core.Path.{refl}
 use Rattle.front_end.proofs.Laws.{frame-few, frame-done, room_few, room_fits}
-use borrow.Author.Rules.{rules}
 use Rattle.front_end.proofs.front_end_frame.Goals as goal
 
 pub returns-then-rows-lt-ROWS : goal.returns-then-rows-lt-ROWS

@@ -2,7 +2,6 @@
 use mathlib.Core.Path.{sym, ap, ◌∙◌}
 use Rattle.standard.specs.Refusals.{told_header}
 use Rattle.front_end.specs.Calls.{sizes_told}
-use borrow.Author.Rules.{rules}
 use Rattle.front_end.proofs.front_end_sizes.Goals as goal
 
 pub returns-in-NoHeader : goal.returns-in-NoHeader

@@ -5,7 +5,6 @@ use Rattle.standard.specs.ToldLaws.{neither_of}
 use Rattle.standard.specs.Refusals.{told_header}
 use Rattle.standard.specs.declared.Refusal.TheVariants.{UnfitMemory}
 use Rattle.front_end.proofs.Laws.{under-no_header, slots-refused, slots-unfit, slots-fit}
-use borrow.Author.Rules.{rules}
 use Rattle.front_end.proofs.front_end_slots.Goals as goal
 
 pub returns-then-rows-numbers : goal.returns-then-rows-numbers

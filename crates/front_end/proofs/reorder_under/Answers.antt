@@ -5,7 +5,6 @@ use Rattle.standard.specs.declared.Refusal.TheVariants.{MadeUpRecord}
 use native.Mathlib.Omega.{arith}
 use Rattle.standard.proofs.RefusalsLaws.{answered_told, answered_refused}
 use Rattle.front_end.proofs.Laws.{four_slots, under-no_side, under-both, reorder_refused, reorder_done, reorder_fits, reorder_there, reorder_lacking}
-use borrow.Author.Rules.{rules}
 use Rattle.front_end.proofs.reorder_under.Goals as goal
 
 pub returns-in-Refused : goal.returns-in-Refused

@@ -1,6 +1,5 @@
 -- `sizes_of` meets its contract: each field is the size of its name. Assumes nothing.
 use Rattle.front_end.specs.Calls.{sizes_told}
-use borrow.Author.Rules.{rules}
 use Rattle.front_end.proofs.sizes_of.Goals as goal
 
 pub returns : goal.returns

@@ -4,7 +4,6 @@ use borrow.Author.Tests.{le-ltb}
 use Rattle.standard.specs.ToldLaws.{neither}
 use Rattle.standard.proofs.RefusalsLaws.{answered_told, answered_refused}
 use Rattle.front_end.proofs.Laws.{under-no_side, under-both, records-in, slots-refused, slots-done, slots-fit}
-use borrow.Author.Rules.{rules}
 use Rattle.front_end.proofs.slots_under.Goals as goal
 
 pub returns-in-Refused : goal.returns-in-Refused

@@ -3,7 +3,6 @@ use mathlib.Core.Path.{◌≡◌, refl, sym, ◌∙◌}
 use mathlib.Core.Bool.{Bool, true, not, ◌&&◌}
 use Prim.Native.Nat.{ℕ}
 use lib.Dec.{eqb}
-use borrow.Author.Rules.{rules}
 use Rattle.standard.specs.Rows.{member}
 use Rattle.standard.specs.Header.{bps, is_mpeg1, bitrates, same_bitrate}
 use Rattle.standard.proofs.HeaderRows.{as_mpeg1, as_mpeg2, between, bitrate_rows}

@@ -1,5 +1,4 @@
 -- `header::has_rate` meets its contract: the version is the arm's, and its row a range. Assumes nothing.
-use borrow.Author.Rules.{rules}
 use Rattle.standard.proofs.HeaderRows.{rate_rows}
 use Rattle.header.proofs.has_rate.Goals as goal
 

@@ -1,6 +1,5 @@
 -- `header::rates` meets its contract: in each arm the version is the arm's, and the definition computes at it. Assumes nothing.
 use mathlib.Core.Path.{sym, ap}
-use borrow.Author.Rules.{rules}
 use Rattle.standard.specs.Header.{rates}
 use Rattle.header.proofs.rates.Goals as goal
 

@@ -1,11 +1,9 @@
 -- `lent_bytes::put` meets its contract. The loop's invariant: i bytes of the list stand where they belong, and what lies beyond is as it was.
 -- Assumes nothing.
 use mathlib.Core.Path.{◌≡◌, refl, ap, ◌∙◌}
-use Prim.Native.Nat.{ℕ, ◌+◌, ◌-◌, ◌≤◌}
+use Prim.Native.Nat.{ℕ, ◌+◌}
 use native.Mathlib.Omega.{arith}
-use borrow.Author.Rules.{rules}
-use lib.ListN.{length}
-use Rattle.standard.specs.CopyLaws.{Copying, copying_begin, copying_turn, copying_end}
+use Rattle.standard.specs.CopyLaws.{copying_begin, copying_turn, copying_end}
 use Rattle.lent_bytes.specs.Put.{room_for}
 use Rattle.lent_bytes.proofs.put.Goals as goal
 
@@ -26,8 +24,7 @@ pub bounds-lent-at : goal.bounds-lent-at
 bounds-lent-at c = omega (arith, c.loop-i.invariant.1.long, c.room_for-n.ensures)
 
 pub loop-i-preserved : goal.loop-i-preserved
-loop-i-preserved c =
-    (
+loop-i-preserved c = (
   omega arith,
   copying_turn _ _ _ _ _ c.loop-i.invariant.1 0 _ _ refl refl (omega (arith, c.room_for-n.ensures))
       (omega (arith, c.room_for-n.ensures)),
@@ -40,8 +37,8 @@ pub returns : goal.returns
 unfolding room_for
 returns c =
     record {
-  next = ap (λ (n : ℕ). c.args.at + n) c.room_for-n.ensures;
-  bytes =
-      copying_end _ _ _ _ _ c.loop-i.invariant.1 _
-      (let e : c.loop-i.i ≡ c.room_for-n.result = omega arith in e ∙ c.room_for-n.ensures);
-}
+      next = ap (λ (n : ℕ). c.args.at + n) c.room_for-n.ensures;
+      bytes =
+          copying_end _ _ _ _ _ c.loop-i.invariant.1 _
+          (let e : c.loop-i.i ≡ c.room_for-n.result = omega arith in e ∙ c.room_for-n.ensures);
+    }

@@ -1,12 +1,7 @@
 -- `lent_bytes::put` meets its contract. The loop's invariant: i bytes of the list stand where they belong, and what lies beyond is as it was.
 -- Assumes nothing.
-use mathlib.Core.Path.{◌≡◌, refl, ap, ◌∙◌}
-use Prim.Native.Nat.{ℕ, ◌+◌, ◌-◌, ◌≤◌}
-use native.Mathlib.Omega.{arith}
-use borrow.Author.Rules.{rules}
-use lib.ListN.{length}
-use Rattle.standard.specs.CopyLaws.{Copying, copying_begin, copying_turn, copying_end}
-use Rattle.lent_bytes.specs.Put.{room_for}
+use Prim.Native.Nat.{◌-◌, ◌≤◌}
+use Rattle.standard.specs.CopyLaws.{Copying}
 use Rattle.lent_bytes.proofs.put.Given as goal
 
 abbrev pub invariant-loop-i : goal.invariant-loop-i

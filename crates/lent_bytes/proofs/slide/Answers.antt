@@ -1,12 +1,10 @@
 -- `lent_bytes::slide` meets its contract. The loop's invariant: i elements are copied, and what lies beyond is as it was, so what is read
 -- next is the old byte. Assumes nothing.
 use mathlib.Core.Path.{◌≡◌, ◌∙◌}
-use Prim.Native.Nat.{ℕ, ◌+◌, ◌-◌, ◌≤◌}
 use native.Mathlib.Omega.{arith}
-use lib.ListN.{length, drop, length-drop}
-use borrow.Author.Rules.{rules}
+use lib.ListN.{length-drop}
 use Rattle.lent_bytes.specs.Put.{slid_of}
-use Rattle.standard.specs.CopyLaws.{Copying, copying_begin, copying_turn, copying_end, slide_next}
+use Rattle.standard.specs.CopyLaws.{copying_begin, copying_turn, copying_end, slide_next}
 use Rattle.lent_bytes.proofs.slide.Goals as goal
 
 -- was the goal same-length

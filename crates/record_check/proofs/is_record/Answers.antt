@@ -1,7 +1,6 @@
 -- `record_check::is_record` meets its contract: the version and the rate of the header decide which test it is.
 -- Assumes nothing.
 use mathlib.Core.Path.{◌∙◌}
-use borrow.Author.Rules.{rules}
 use Rattle.standard.specs.Record.{is_record}
 use Rattle.record_check.proofs.is_record.Goals as goal
 

@@ -1,7 +1,6 @@
 -- `record_check::is_side_info` meets its contract: the version, the channels and the rate of the header decide which test it is.
 -- Assumes nothing.
 use mathlib.Core.Path.{◌∙◌}
-use borrow.Author.Rules.{rules}
 use Rattle.standard.specs.SideInfo.{is_side_by, is_side}
 use Rattle.record_check.proofs.is_side_info.Goals as goal
 

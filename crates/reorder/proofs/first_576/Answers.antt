@@ -1,14 +1,13 @@
 -- `reorder::first_576` meets its contract. The loop's invariant: i numbers are copied. Assumes nothing.
-use mathlib.Core.Path.{◌≡◌, refl, sym, ap, ◌∙◌}
-use Prim.Native.Nat.{ℕ, ◌+◌, ◌-◌, ◌≤◌}
+use mathlib.Core.Path.{refl, ◌∙◌}
 use native.Mathlib.Omega.{arith}
 use borrow.Author.Rules.{rules}
 use lib.IntN.{pos}
-use lib.ListN.{length, get_or, replicate}
+use lib.ListN.{get_or, replicate}
 use mir.Syntax.{w32}
 use mir.Val.{SFits}
 use mir.ValLaws.{to_z-of_z}
-use Rattle.standard.specs.CopyLaws.{Copying, copying_begin, copying_turn, copying_end, paste_whole}
+use Rattle.standard.specs.CopyLaws.{copying_begin, copying_turn, copying_end, paste_whole}
 use Rattle.reorder.proofs.first_576.Goals as goal
 
 pub loop-i-init : goal.loop-i-init

@@ -9,7 +9,6 @@ use Rattle.standard.specs.Told.{told}
 use Rattle.standard.proofs.RefusalsLaws.{answers_refused, answers_told}
 use Rattle.standard.specs.Reorder.{first_short, reordered_from}
 use Rattle.standard.proofs.ReorderLaws.{few_numbers, made_up, in_order, first-le}
-use borrow.Author.Rules.{rules}
 use Rattle.reorder.proofs.reorder.Goals as goal
 
 -- was the goal same-length

@@ -1,16 +1,15 @@
 -- `reorder::reorder_band` meets its contract. The loop's invariant: three numbers for each frequency passed are copied, in the band's new
 -- order. Assumes nothing.
-use mathlib.Core.Path.{◌≡◌, refl, sym, ap, ◌∙◌}
-use Prim.Native.Nat.{ℕ, ◌+◌, ◌-◌, ◌*◌, ◌≤◌}
+use mathlib.Core.Path.{◌∙◌}
+use Prim.Native.Nat.{◌+◌, ◌*◌}
 use native.Mathlib.Omega.{arith}
 use borrow.Author.Rules.{rules}
 use lib.IntN.{pos}
-use lib.ListN.{length, get_or, set}
+use lib.ListN.{get_or, set}
 use mir.Syntax.{w32}
 use mir.Val.{SFits}
 use mir.ValLaws.{to_z-of_z}
-use Rattle.standard.specs.CopyLaws.{Copying, copying_begin, copying_end}
-use Rattle.standard.specs.Reorder.{band_numbers}
+use Rattle.standard.specs.CopyLaws.{copying_begin, copying_end}
 use Rattle.reorder.proofs.Bands.{band_turn}
 use Rattle.reorder.proofs.reorder_band.Goals as goal
 

@@ -1,7 +1,6 @@
 -- `reorder::store_three` meets its contract. Assumes nothing.
 use native.Mathlib.Omega.{arith}
 use lib.ListN.{length-set}
-use borrow.Author.Rules.{rules}
 use Rattle.reorder.proofs.store_three.Goals as goal
 
 -- was the goal same-length

@@ -1,15 +1,14 @@
 -- `reservoir::turn` meets its contract: each test is one of the turn's sizes, and the bytes putd are those that the turn keeps.
 -- Assumes nothing.
-use mathlib.Core.Path.{◌≡◌, refl, sym, ap, ◌∙◌}
+use mathlib.Core.Path.{refl, ap, ◌∙◌}
 use mathlib.Core.List.{List}
 use Prim.Native.Nat.{ℕ, ◌+◌, ◌-◌, ◌≤◌, ◌<◌}
 use native.Mathlib.Omega.{arith}
-use lib.ListN.{length, drop}
+use lib.ListN.{length}
 use lib.Seq.{paste}
 use Rattle.standard.specs.Reservoir.{turn_kept, turn_verdict}
 use Rattle.standard.proofs.ReservoirLaws.{few_lent, much_stated, too_long, short_turn, reached_turn, short_bytes, short_length, reached_length, reached_bytes, unfit-turned, changed_turned}
 use Rattle.lent_bytes.specs.PutLaws.{put_whole, slid_whole}
-use borrow.Author.Rules.{rules}
 use Rattle.reservoir.proofs.turn.Goals as goal
 
 -- was the goal same-length

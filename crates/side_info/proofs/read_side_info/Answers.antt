@@ -1,7 +1,5 @@
 -- `side_info::read_side_info` meets its contract: a header that no bytes read to is refused, and under another it is what follows.
 -- Assumes nothing.
-use borrow.Author.Rules.{rules}
-use borrow.Author.Tests.{not-true, not-false}
 use Rattle.side_info.proofs.Sides.{side_made_up, side_known}
 use Rattle.side_info.proofs.read_side_info.Goals as goal
 

@@ -1,6 +1,5 @@
 -- `side_info::side_under` meets its contract: what follows the header, by its parts.
 -- Assumes nothing.
-use borrow.Author.Rules.{rules}
 use Rattle.side_info.proofs.Sides.{header-small, by_parts}
 use Rattle.side_info.proofs.side_under.Goals as goal
 

@@ -2,7 +2,6 @@
 use mathlib.Core.Path.{ap}
 use lib.ListN.{replicate}
 use Rattle.standard.specs.Slots.{slots_told}
-use borrow.Author.Rules.{rules}
 use Rattle.standard.specs.declared.SlotAnswer.{SlotAnswer}
 use Rattle.frame.proofs.answers.lacking_slots.Goals as goal
 

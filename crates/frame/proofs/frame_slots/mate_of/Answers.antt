@@ -5,7 +5,6 @@ use Rattle.standard.specs.ToldLaws.{picked, passed}
 use Rattle.standard.specs.Slots.{alone, slot_told}
 use Rattle.standard.specs.declared.SlotAnswer.{SlotAnswer}
 use Rattle.frame.specs.Slot.{said_refused, mate_in}
-use borrow.Author.Rules.{rules}
 use Rattle.frame.proofs.frame_slots.mate_of.Goals as goal
 
 pub returns-then-k-channels : goal.returns-then-k-channels

@@ -1,14 +1,10 @@
 -- `slots_from` meets its contract. The loop's invariant: what the slots before the k-th came to is answered, and the rest of the definition
 -- remains. Assumes nothing.
-use mathlib.Core.Path.{◌≡◌, refl, sym, ap, ◌∙◌}
-use Prim.Native.Nat.{ℕ, ◌+◌, ◌-◌, ◌*◌, ◌≤◌, ◌<◌}
+use Prim.Native.Nat.{◌*◌}
 use native.Mathlib.Omega.{arith}
-use borrow.Author.Rules.{rules}
-use lib.ListN.{length}
-use Rattle.standard.specs.Header.{granules, channel_count}
 use Rattle.standard.proofs.SideLaws.{four_slots}
 use Rattle.standard.specs.Record.{past_record}
-use Rattle.frame.proofs.Turns.{Turning, turning_begin, turning_part, turning_end, record_at_lem, part_long, four_at_most, some_channels}
+use Rattle.frame.proofs.Turns.{turning_begin, turning_part, turning_end, record_at_lem, part_long, four_at_most, some_channels}
 use Rattle.frame.proofs.frame_slots.slots_from.Goals as goal
 
 pub slice_bounds-read_slot-end : goal.slice_bounds-read_slot-end
@@ -28,8 +24,7 @@ pub lacking_slots-answers-requires : goal.lacking_slots-answers-requires
 lacking_slots-answers-requires c = tt
 
 pub loop-k-init : goal.loop-k-init
-loop-k-init c =
-    (
+loop-k-init c = (
   (λ j. c.granules.ensures j * c.channel_count-channels.ensures j),
   c.channel_count-channels.ensures,
   omega arith,

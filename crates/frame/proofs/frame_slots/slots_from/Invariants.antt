@@ -1,14 +1,9 @@
 -- `slots_from` meets its contract. The loop's invariant: what the slots before the k-th came to is answered, and the rest of the definition
 -- remains. Assumes nothing.
-use mathlib.Core.Path.{◌≡◌, refl, sym, ap, ◌∙◌}
-use Prim.Native.Nat.{ℕ, ◌+◌, ◌-◌, ◌*◌, ◌≤◌, ◌<◌}
-use native.Mathlib.Omega.{arith}
-use borrow.Author.Rules.{rules}
-use lib.ListN.{length}
+use mathlib.Core.Path.{◌≡◌}
+use Prim.Native.Nat.{◌-◌, ◌*◌, ◌≤◌}
 use Rattle.standard.specs.Header.{granules, channel_count}
-use Rattle.standard.proofs.SideLaws.{four_slots}
-use Rattle.standard.specs.Record.{past_record}
-use Rattle.frame.proofs.Turns.{Turning, turning_begin, turning_part, turning_end, record_at_lem, part_long, four_at_most, some_channels}
+use Rattle.frame.proofs.Turns.{Turning}
 use Rattle.frame.proofs.frame_slots.slots_from.Given as goal
 
 abbrev pub invariant-loop-k : goal.invariant-loop-k

@@ -2,7 +2,6 @@
 use mathlib.Core.Path.{sym, ap}
 use Rattle.standard.specs.declared.SlotOutcome.{SlotOutcome}
 use Rattle.frame.specs.Slot.{said_refused}
-use borrow.Author.Rules.{rules}
 use Rattle.frame.proofs.frame_slots.was_refused.Goals as goal
 
 pub returns-in-Read : goal.returns-in-Read

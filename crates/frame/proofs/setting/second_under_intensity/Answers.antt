@@ -3,7 +3,6 @@ use mathlib.Core.Path.{sym, ap, ◌∙◌}
 use mathlib.Core.Bool.{Bool, ◌&&◌}
 use borrow.Author.Tests.{eq-eqb, ne_eqb}
 use Rattle.standard.specs.Header.{is_intensity}
-use borrow.Author.Rules.{rules}
 use Rattle.frame.proofs.setting.second_under_intensity.Goals as goal
 
 pub returns-then-n-eq1 : goal.returns-then-n-eq1

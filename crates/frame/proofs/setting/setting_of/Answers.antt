@@ -1,6 +1,5 @@
 -- `setting_of` meets its contract, field by field. Assumes nothing.
 use Rattle.standard.specs.Slots.{setting_of}
-use borrow.Author.Rules.{rules}
 use Rattle.frame.proofs.setting.setting_of.Goals as goal
 
 pub returns : goal.returns

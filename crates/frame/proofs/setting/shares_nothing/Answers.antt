@@ -3,7 +3,6 @@ use mathlib.Core.Path.{sym, ap, ◌∙◌}
 use mathlib.Core.Bool.{Bool, not, ◌||◌}
 use borrow.Author.Tests.{lt-ltb, le-ltb}
 use Rattle.standard.specs.Factors.{may_share}
-use borrow.Author.Rules.{rules}
 use Rattle.frame.proofs.setting.shares_nothing.Goals as goal
 
 pub returns-then-n-channels : goal.returns-then-n-channels

@@ -5,7 +5,6 @@ use native.Mathlib.Omega.{arith}
 use lib.ListN.{length}
 use Rattle.standard.proofs.SlotsLaws.{slot_in-missing, slot_in-read}
 use Rattle.frame.proofs.Slots.{stopped_read}
-use borrow.Author.Rules.{rules}
 use Rattle.frame.proofs.slot.read_slot.Goals as goal
 
 pub returns-then-main-end : goal.returns-then-main-end

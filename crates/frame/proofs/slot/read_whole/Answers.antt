@@ -1,6 +1,6 @@
 -- `read_whole` meets its contract: its tests are the definition's, and its numbers those of the published codes. Assumes nothing.
-use mathlib.Core.Path.{◌≡◌, refl, sym, ap, ◌∙◌}
-use Prim.Native.Nat.{ℕ, ◌+◌, ◌≤◌, ◌<◌}
+use mathlib.Core.Path.{refl, sym, ap, ◌∙◌}
+use Prim.Native.Nat.{ℕ, ◌+◌}
 use native.Mathlib.Omega.{arith}
 use Rattle.standard.specs.Bits.{between}
 use Rattle.standard.specs.Codes.{word_of}
@@ -8,7 +8,6 @@ use Rattle.standard.specs.Numbers.{Numbers, numbers_of}
 use Rattle.huffman.specs.Slot.{told_count, count_of, numbers_after as slotLeft}
 use Rattle.frame.proofs.Slots.{slot_factors, slot_lost, slot_numbers_lem, stopped_read, numbers-refused, numbers-counted, huffman_numbers_lem}
 use Rattle.standard.specs.declared.SlotOutcome.TheVariants.{Read}
-use borrow.Author.Rules.{rules}
 use Rattle.frame.proofs.slot.read_whole.Goals as goal
 
 pub returns-then-length-part2 : goal.returns-then-length-part2

@@ -1,10 +1,7 @@
 -- `put_bytes` meets its contract. The loop's invariant: i bytes are copied. Assumes nothing.
-use mathlib.Core.Path.{refl}
 use Prim.Native.Nat.{◌-◌, ◌≤◌}
-use native.Mathlib.Omega.{arith}
-use borrow.Author.Rules.{rules}
 use lib.ListN.{length}
-use Rattle.standard.specs.CopyLaws.{Copying, copying_begin, copying_turn, copying_end}
+use Rattle.standard.specs.CopyLaws.{Copying}
 use Rattle.front_end.proofs.rows.put_bytes.Given as goal
 
 abbrev pub invariant-loop-i : goal.invariant-loop-i

@@ -1,11 +1,11 @@
 -- `put_row` meets its contract: the five pieces are the row. Assumes nothing.
-use mathlib.Core.Path.{◌≡◌, sym, ap, ◌∙◌}
+use mathlib.Core.Path.{◌≡◌, ap, ◌∙◌}
 use native.Mathlib.Omega.{arith}
 use lib.ListN.{length, length-set}
 use lib.Seq.{paste}
 use mathlib.Core.List.{List}
 use Prim.Native.Nat.{ℕ, ◌+◌}
-use Rattle.front_end.proofs.Laws.{after-long, after-short, after-scale, row_put}
+use Rattle.front_end.proofs.Laws.{after-long, after-short, row_put}
 use borrow.Author.Rules.{rules}
 use Rattle.front_end.proofs.rows.put_row.Goals as goal
 

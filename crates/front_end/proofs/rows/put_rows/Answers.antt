@@ -1,11 +1,10 @@
 -- `put_rows` meets its contract. The loop's invariant: what the rows from the k-th on make of the lent numbers is what all of them make of
 -- those at entry. Assumes nothing.
-use mathlib.Core.Path.{◌≡◌, refl, ap, ◌∙◌}
-use mathlib.Core.List.{map}
-use Prim.Native.Nat.{◌+◌, ◌-◌, ◌*◌, ◌≤◌}
+use mathlib.Core.Path.{refl, ap, ◌∙◌}
+use Prim.Native.Nat.{◌+◌, ◌*◌}
 use native.Mathlib.Omega.{arith}
 use borrow.Author.Rules.{rules}
-use lib.ListN.{length, drop}
+use lib.ListN.{drop}
 use Rattle.front_end.specs.Calls.{per_row, rows_from}
 use Rattle.front_end.proofs.Laws.{rows-turn, rows_end}
 use Rattle.front_end.proofs.rows.put_rows.Goals as goal

@@ -2,13 +2,11 @@
 use mathlib.Core.Path.{sym, ap, ◌∙◌}
 use Rattle.standard.specs.declared.SlotOutcome.{SlotOutcome}
 use Rattle.front_end.specs.Calls.{said_number, said_count}
-use borrow.Author.Rules.{rules}
 use Rattle.front_end.proofs.rows.said_of.Goals as goal
 
 -- src/rows.rt:25:1
 pub returns-in-NotRead : goal.returns-in-NotRead
-returns-in-NotRead c =
-    (
+returns-in-NotRead c = (
   c.number_of.ensures ∙ sym (ap (λ (x : SlotOutcome). said_number x) c.in-NotRead.is),
   sym (ap (λ (x : SlotOutcome). said_count x) c.in-NotRead.is),
 )

@@ -1,9 +1,7 @@
 -- `tell` meets its contract: in each arm the verdict is the arm's. Assumes nothing.
 use mathlib.Core.Path.{sym, ap, ◌∙◌}
-use mathlib.Core.List.{map}
 use Rattle.standard.specs.declared.Verdict.{Verdict}
 use Rattle.front_end.specs.Calls.{call_told, rows_after}
-use borrow.Author.Rules.{rules}
 use Rattle.front_end.proofs.rows.tell.Goals as goal
 
 pub returns-in-Refused : goal.returns-in-Refused

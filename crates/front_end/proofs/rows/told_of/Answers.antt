@@ -1,5 +1,4 @@
 -- `told_of` meets its contract: number and offset are the refusal's. Assumes nothing.
-use borrow.Author.Rules.{rules}
 use Rattle.front_end.proofs.rows.told_of.Goals as goal
 
 pub returns : goal.returns

@@ -2,7 +2,6 @@
 use mathlib.Core.Path.{sym, ap, ◌∙◌}
 use Rattle.standard.specs.declared.Verdict.{Verdict}
 use Rattle.front_end.specs.Calls.{call_told}
-use borrow.Author.Rules.{rules}
 use Rattle.front_end.proofs.rows.verdict_told.Goals as goal
 
 pub returns-in-Refused : goal.returns-in-Refused

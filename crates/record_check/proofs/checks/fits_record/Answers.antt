@@ -1,7 +1,6 @@
 -- `record_check::checks::fits_record` meets its contract: the head's test, and the body's by whether the block is long.
 -- Assumes nothing.
 use mathlib.Core.Path.{sym, ◌∙◌}
-use borrow.Author.Rules.{rules}
 use Rattle.standard.specs.ToldLaws.{picked, passed}
 use Rattle.standard.specs.Record.{is_record, is_long_body, is_switched_body}
 use Rattle.record_check.proofs.checks.fits_record.Goals as goal

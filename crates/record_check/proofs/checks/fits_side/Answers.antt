@@ -1,7 +1,6 @@
 -- `record_check::checks::fits_side` meets its contract: the definition's three tests, at the widths and counts of the layout.
 -- Assumes nothing.
 use native.Mathlib.Omega.{arith}
-use borrow.Author.Rules.{rules}
 use Rattle.record_check.proofs.Tests.{side_is}
 use Rattle.record_check.proofs.checks.fits_side.Goals as goal
 

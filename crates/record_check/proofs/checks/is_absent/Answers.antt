@@ -1,6 +1,5 @@
 -- `record_check::checks::is_absent` meets its contract: the definition's tests, those of the gains and tables by their functions.
 -- Assumes nothing.
-use borrow.Author.Rules.{rules}
 use Rattle.standard.specs.SideInfo.{is_absent, no_head, no_body, no_tail}
 use Rattle.record_check.proofs.checks.is_absent.Goals as goal
 

@@ -2,7 +2,6 @@
 -- Assumes nothing.
 use Prim.Native.Nat.{◌<◌}
 use native.Mathlib.Omega.{arith}
-use borrow.Author.Rules.{rules}
 use Rattle.record_check.proofs.Widths.{width}
 use Rattle.record_check.proofs.Tests.{head_is}
 use Rattle.record_check.proofs.checks.is_head.Goals as goal

@@ -1,6 +1,5 @@
 -- `record_check::checks::is_long_body` meets its contract: the definition's tests, those of the gains and tables by their functions.
 -- Assumes nothing.
-use borrow.Author.Rules.{rules}
 use Rattle.standard.specs.Record.{is_long_body}
 use Rattle.record_check.proofs.checks.is_long_body.Goals as goal
 

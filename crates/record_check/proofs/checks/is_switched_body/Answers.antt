@@ -1,6 +1,5 @@
 -- `record_check::checks::is_switched_body` meets its contract: the definition's tests, the regions being those of the shape.
 -- Assumes nothing.
-use borrow.Author.Rules.{rules}
 use Rattle.standard.specs.Record.{is_switched_body}
 use Rattle.record_check.proofs.checks.is_switched_body.Goals as goal
 

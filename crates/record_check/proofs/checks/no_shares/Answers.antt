@@ -2,11 +2,11 @@
 -- Assumes nothing.
 use mathlib.Core.Path.{◌≡◌, sym, ap, ◌∙◌}
 use mathlib.Core.Bool.{false, not}
-use Prim.Native.Nat.{◌-◌, ◌<◌, ◌≤◌}
+use Prim.Native.Nat.{◌<◌, ◌≤◌}
 use native.Mathlib.Omega.{arith}
 use borrow.Author.Rules.{rules}
 use lib.ListN.{length}
-use Rattle.record_check.proofs.Tests.{All, all_begin, all_turn, all_stop, all_end, shares_from, share_test, shares_step, shares_none, shares_are}
+use Rattle.record_check.proofs.Tests.{all_begin, all_turn, all_stop, all_end, shares_from, share_test, shares_step, shares_none, shares_are}
 use Rattle.record_check.proofs.checks.no_shares.Goals as goal
 
 pub loop-i-init : goal.loop-i-init

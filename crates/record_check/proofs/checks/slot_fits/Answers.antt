@@ -1,7 +1,6 @@
 -- `record_check::checks::slot_fits` meets its contract: a record, or the record of a lacking slot.
 -- Assumes nothing.
 use mathlib.Core.Path.{sym, ◌∙◌}
-use borrow.Author.Rules.{rules}
 use Rattle.standard.specs.ToldLaws.{picked, passed}
 use Rattle.record_check.proofs.checks.slot_fits.Goals as goal
 

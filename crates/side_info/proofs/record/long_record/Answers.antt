@@ -3,7 +3,6 @@
 use mathlib.Core.Path.{refl}
 use mathlib.Core.Bool.{false}
 use mathlib.Core.List.{[], ◌∷◌}
-use borrow.Author.Rules.{rules}
 use Rattle.standard.specs.Record.{long_of}
 use Rattle.standard.specs.declared.BlockType.TheVariants.{Long}
 use Rattle.side_info.specs.Parts.{common_of}

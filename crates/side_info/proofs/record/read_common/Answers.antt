@@ -2,7 +2,6 @@
 -- Assumes nothing.
 use Prim.Native.Nat.{◌≤◌}
 use native.Mathlib.Omega.{arith}
-use borrow.Author.Rules.{rules}
 use Rattle.side_info.proofs.Cuts.{nine_below}
 use Rattle.side_info.proofs.Fields.{compress_there, common_read}
 use Rattle.record_check.proofs.Widths.{width}

@@ -1,8 +1,6 @@
 -- `side_info::record::read_preflag` meets its contract: the bit at 56 in MPEG-1, and else whether scalefac_compress is 500 or more.
 -- Assumes nothing.
 use mathlib.Core.Path.{◌∙◌}
-use borrow.Author.Rules.{rules}
-use borrow.Author.Tests.{not-true, not-false}
 use Rattle.side_info.proofs.Fields.{preflag_read, preflag_follows}
 use Rattle.side_info.proofs.record.read_preflag.Goals as goal
 

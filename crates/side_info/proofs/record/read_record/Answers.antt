@@ -3,7 +3,6 @@
 use mathlib.Core.Path.{refl, ap, ◌∙◌}
 use Prim.Native.Nat.{ℕ, ◌+◌}
 use native.Mathlib.Omega.{arith}
-use borrow.Author.Rules.{rules}
 use Rattle.standard.specs.Bits.{field_at}
 use Rattle.side_info.specs.Parts.{PartsAt}
 use Rattle.record_check.proofs.Widths.{width}

@@ -2,7 +2,6 @@
 -- Assumes nothing.
 use mathlib.Core.Path.{◌∙◌}
 use Prim.Native.Nat.{◌/◌, ◌%◌, ◌^◌}
-use borrow.Author.Rules.{rules}
 use lib.Dec.{eqb}
 use Rattle.standard.specs.Record.{compress_width, switched_of}
 use Rattle.side_info.specs.Parts.{record_bits}

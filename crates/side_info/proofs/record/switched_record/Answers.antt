@@ -3,7 +3,6 @@
 -- Assumes nothing.
 use mathlib.Core.Path.{refl, ap, ◌∙◌}
 use mathlib.Core.List.{[], ◌∷◌}
-use borrow.Author.Rules.{rules}
 use Rattle.standard.specs.Record.{gain_of, region0_of, region1_of, switched_of}
 use Rattle.side_info.specs.Parts.{common_of}
 use Rattle.side_info.proofs.Fields.{window_cut, window_last}

@@ -2,7 +2,6 @@
 -- Assumes nothing.
 use mathlib.Core.Path.{sym, ap}
 use native.Mathlib.Omega.{arith}
-use borrow.Author.Rules.{rules}
 use Rattle.standard.specs.Told.{verdict_of}
 use Rattle.side_info.proofs.Fields.{says_many, says_long, says_forbidden, says_mixed, says_switched}
 use Rattle.side_info.proofs.record.verdict_of.Goals as goal

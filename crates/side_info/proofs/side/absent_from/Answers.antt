@@ -1,7 +1,6 @@
 -- `side_info::side::absent_from` meets its contract, by its one test.
 -- Assumes nothing.
 use mathlib.Core.Path.{sym}
-use borrow.Author.Rules.{rules}
 use borrow.Author.Tests.{lt-ltb, le-ltb}
 use Rattle.standard.specs.ToldLaws.{picked, passed}
 use Rattle.standard.specs.SideInfo.{absent_from}

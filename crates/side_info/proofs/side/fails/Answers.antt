@@ -2,7 +2,6 @@
 use mathlib.Core.Path.{sym, ap, ◌∙◌}
 use mathlib.Core.Bool.{Bool, not, ◌&&◌}
 use Rattle.standard.specs.Crc.{crc_fits}
-use borrow.Author.Rules.{rules}
 use Rattle.side_info.proofs.side.fails.Goals as goal
 
 pub returns-then-crc : goal.returns-then-crc

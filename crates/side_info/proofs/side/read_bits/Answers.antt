@@ -2,7 +2,6 @@
 -- Assumes nothing.
 use Prim.Native.Nat.{◌≤◌}
 use native.Mathlib.Omega.{arith}
-use borrow.Author.Rules.{rules}
 use Rattle.standard.proofs.RefusalsLaws.{answers_told}
 use Rattle.side_info.proofs.Cuts.{nine_below}
 use Rattle.side_info.proofs.Sides.{side_refused, side_told}

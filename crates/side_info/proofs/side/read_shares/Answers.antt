@@ -1,8 +1,6 @@
 -- `side_info::side::read_shares` meets its contract. The loop's invariant, `SharesLoop`: the bits passed stand first, and then false.
 -- Assumes nothing.
-use Prim.Native.Nat.{◌-◌}
-use borrow.Author.Rules.{rules}
-use Rattle.side_info.proofs.Loops.{SharesLoop, shares_begin, shares_turn, shares_end}
+use Rattle.side_info.proofs.Loops.{shares_begin, shares_turn, shares_end}
 use Rattle.side_info.proofs.side.read_shares.Goals as goal
 
 pub loop-i-init : goal.loop-i-init

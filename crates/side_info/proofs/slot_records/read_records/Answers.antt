@@ -1,11 +1,9 @@
 -- `side_info::slot_records::read_records` meets its contract. The loop's invariant, `RecordsLoop`: what was read stands in the first slots, and
 -- with what remains it is the whole.
 -- Assumes nothing.
-use Prim.Native.Nat.{◌-◌}
 use native.Mathlib.Omega.{arith}
-use borrow.Author.Rules.{rules}
 use Rattle.record_check.proofs.Widths.{width}
-use Rattle.side_info.proofs.Loops.{RecordsLoop, records-begin, records-stop, records-turn, records-end}
+use Rattle.side_info.proofs.Loops.{records-begin, records-stop, records-turn, records-end}
 use Rattle.side_info.proofs.slot_records.read_records.Goals as goal
 
 -- was the goal enum-told

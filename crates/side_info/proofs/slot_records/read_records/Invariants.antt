@@ -2,10 +2,7 @@
 -- with what remains it is the whole.
 -- Assumes nothing.
 use Prim.Native.Nat.{◌-◌}
-use native.Mathlib.Omega.{arith}
-use borrow.Author.Rules.{rules}
-use Rattle.record_check.proofs.Widths.{width}
-use Rattle.side_info.proofs.Loops.{RecordsLoop, records-begin, records-stop, records-turn, records-end}
+use Rattle.side_info.proofs.Loops.{RecordsLoop}
 use Rattle.side_info.proofs.slot_records.read_records.Given as goal
 
 abbrev pub invariant-loop-i : goal.invariant-loop-i

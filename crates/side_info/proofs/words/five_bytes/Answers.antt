@@ -1,10 +1,7 @@
 -- `side_info::words::five_bytes` meets its contract. The loop's invariant: the number is what the bits of the bytes passed spell.
 -- Assumes nothing.
 use mathlib.Core.Path.{◌≡◌}
-use Prim.Native.Nat.{◌*◌, ◌-◌, ◌≤◌}
 use native.Mathlib.Omega.{arith}
-use borrow.Author.Rules.{rules}
-use Rattle.standard.specs.Bits.{field_at}
 use Rattle.side_info.proofs.Cuts.{bytes-none, bytes-more, bytes_below, byte-below}
 use Rattle.side_info.proofs.words.five_bytes.Goals as goal
 

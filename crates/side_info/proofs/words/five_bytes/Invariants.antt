@@ -2,10 +2,7 @@
 -- Assumes nothing.
 use mathlib.Core.Path.{◌≡◌}
 use Prim.Native.Nat.{◌*◌, ◌-◌, ◌≤◌}
-use native.Mathlib.Omega.{arith}
-use borrow.Author.Rules.{rules}
 use Rattle.standard.specs.Bits.{field_at}
-use Rattle.side_info.proofs.Cuts.{bytes-none, bytes-more, bytes_below, byte-below}
 use Rattle.side_info.proofs.words.five_bytes.Given as goal
 
 abbrev pub invariant-loop-k : goal.invariant-loop-k

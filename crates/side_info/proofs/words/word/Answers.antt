@@ -1,6 +1,5 @@
 -- `side_info::words::word` meets its contract: the n bits stand among the 40 of five bytes, with so many bits after them.
 -- Assumes nothing.
-use borrow.Author.Rules.{rules}
 use Rattle.side_info.proofs.Cuts.{mask_pos, within}
 use Rattle.side_info.proofs.words.word.Goals as goal
 

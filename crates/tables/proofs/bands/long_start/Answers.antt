@@ -3,7 +3,6 @@
 use mathlib.Core.Path.{◌≡◌, sym, ap, ◌∙◌}
 use mathlib.Core.List.{[]}
 use Prim.Native.Nat.{ℕ, ◌<◌}
-use borrow.Author.Rules.{rules}
 use lib.ListN.{get_or}
 use Rattle.standard.specs.Bands.{row_of, long_rows, long_start}
 use Rattle.standard.proofs.BandsLaws.{long-within, long-past}

@@ -2,7 +2,6 @@
 use mathlib.Core.Path.{sym, ap, ◌∙◌}
 use mathlib.Core.Bool.{Bool, false}
 use Rattle.standard.specs.Lengths.{long_counts, short_counts, mixed_counts, count_rows}
-use borrow.Author.Rules.{rules}
 use Rattle.tables.proofs.lengths.count_rows.Goals as goal
 
 -- was the goal enum-told

@@ -3,7 +3,6 @@
 use mathlib.Core.Path.{refl, sym, ap}
 use mathlib.Core.List.{List, []}
 use Prim.Native.Nat.{ℕ}
-use borrow.Author.Rules.{rules}
 use lib.ListN.{get_or, get_or-eq_default}
 use Rattle.standard.specs.Lengths.{slen_rows, slen1, slen2}
 use Rattle.tables.proofs.lengths.factor_lengths.Goals as goal

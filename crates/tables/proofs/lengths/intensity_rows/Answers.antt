@@ -2,7 +2,6 @@
 use mathlib.Core.Path.{sym, ap}
 use mathlib.Core.Bool.{true}
 use Rattle.standard.specs.Lengths.{intensity_long_counts, intensity_short_counts, intensity_mixed_counts, count_rows}
-use borrow.Author.Rules.{rules}
 use Rattle.tables.proofs.lengths.intensity_rows.Goals as goal
 
 -- was the goal enum-told

@@ -4,7 +4,6 @@ use mathlib.Core.List.{[]}
 use lib.ListN.{get_or}
 use Rattle.standard.specs.Lengths.{low_counts}
 use Rattle.standard.proofs.LengthsLaws.{range_lt}
-use borrow.Author.Rules.{rules}
 use Rattle.tables.proofs.lengths.lfs_counts.Goals as goal
 
 pub offset_bounds-rows-range : goal.offset_bounds-rows-range

@@ -3,7 +3,6 @@
 use mathlib.Core.Path.{sym, ap, ◌∙◌}
 use mathlib.Core.Bool.{Bool}
 use Rattle.standard.specs.Lengths.{low_lengths}
-use borrow.Author.Rules.{rules}
 use Rattle.tables.proofs.lengths.lfs_lengths.Goals as goal
 
 pub returns-then-intensity : goal.returns-then-intensity
