@@ -6,7 +6,7 @@ use mathlib.Core.Bool.{Bool, true, false}
 use mathlib.Core.List.{List, [], ◌∷◌, ◌++◌}
 use lib.ListN.{replicate}
 use Rattle.standard.specs.Crc.{differ, added, taps, feed, fed}
-use Rattle.standard.proofs.CrcLaws.{differ_back}
+use Rattle.standard.specs.CrcLaws.{differ_back}
 use Rattle.crc.specs.Odd.{odd_from, odd_of}
 
 comm : (x y : Bool) → differ x y ≡ differ y x

@@ -10,7 +10,7 @@ use Rattle.standard.specs.Bits.{bits, between, value, field_at}
 use Rattle.standard.specs.BitsLaws.{length-bits, bits-add, between-nil, value-below, byte-value}
 use Rattle.standard.specs.Written.{bits_of, length-bits_of, value-bits_of, bits-own}
 use Rattle.standard.specs.Crc.{fed, check_word, covered, crc_fits}
-use Rattle.standard.proofs.CrcLaws.{fed-long, fed-append}
+use Rattle.standard.specs.CrcLaws.{fed-long, fed-append}
 
 -- ending with the register c, from the byte i on, comes to the whole
 pub record Feeding (whole : ℕ) (s : List ℕ) (to word i : ℕ) : Type 0 where

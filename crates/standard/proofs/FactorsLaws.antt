@@ -11,7 +11,7 @@ use Rattle.standard.specs.Bits.{bits, value}
 use Rattle.standard.specs.BitsLaws.{take-bits}
 use Rattle.standard.specs.RowsLaws.{every, every-at, every_in}
 use Rattle.standard.specs.Lengths.{slen_rows, slen1, slen2, low_range, ordinary_lengths, intensity_lengths, low_lengths, long_counts, short_counts, mixed_counts, intensity_long_counts, intensity_short_counts, intensity_mixed_counts, count_rows, low_counts}
-use Rattle.standard.proofs.LengthsLaws.{range_lt}
+use Rattle.standard.specs.LengthsLaws.{range_lt}
 use Rattle.standard.specs.Record.{shape_of}
 use Rattle.standard.specs.Factors.{Source, shared, coded, plan_by, plan_of, group, groups_from, sources_of, may_share, plan_bits, factors_from, long_count, short_count, short_from, factor_count, width_of, factor_by, short_factors, bands_of}
 use Rattle.standard.specs.declared.SlotRecord.{SlotRecord}

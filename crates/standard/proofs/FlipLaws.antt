@@ -15,7 +15,7 @@ use Rattle.standard.specs.Bits.{one, bit_at, bits, between, value, field_at}
 use Rattle.standard.specs.BitsLaws.{length-bits, bits-add, get_d_bits, byte-value}
 use Rattle.standard.specs.Written.{Bytes, value-one}
 use Rattle.standard.specs.Crc.{check_word, covered, crc_fits}
-use Rattle.standard.proofs.CrcLaws.{fed-long, flipped}
+use Rattle.standard.specs.CrcLaws.{fed-long, flipped}
 use Rattle.standard.specs.Header.{is_mpeg1, is_two, last_bytes, second_byte, header_of, is_header, header_size, side_bytes, side_size}
 use Rattle.standard.specs.SideInfo.{side_from, side_of}
 use Rattle.standard.specs.Frame.{no_step, frame_of}

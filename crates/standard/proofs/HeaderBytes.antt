@@ -16,7 +16,7 @@ use Rattle.standard.specs.ToldLaws.{passed, no_refusal, told_is, both_of, both}
 use Rattle.standard.specs.Bits.{one, bit_at, bits, between, value, field_at}
 use Rattle.standard.specs.BitsLaws.{one-le, one-is, bits-after}
 use Rattle.standard.specs.Crc.{check_word, covered, crc_fits}
-use Rattle.standard.proofs.CrcLaws.{fed-long}
+use Rattle.standard.specs.CrcLaws.{fed-long}
 use Rattle.standard.specs.Rows.{member, place}
 use Rattle.standard.specs.RowsLaws.{member-at, place_at}
 use Rattle.standard.specs.Header.{same_bitrate, same_rate, bitrates, rates, version_of, emphasis_of, channels_of, fields, last_bytes, second_byte, header_of, is_header, header_size}

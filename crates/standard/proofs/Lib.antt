@@ -2,9 +2,6 @@
 pub mod Worked
 pub mod CodesLaws
 pub mod ValuesLaws
-pub mod CrcLaws
-pub mod BandsLaws
-pub mod LengthsLaws
 pub mod RefusalsLaws
 pub mod HeaderRows
 pub mod HeaderLaws

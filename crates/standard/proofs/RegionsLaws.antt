@@ -3,7 +3,7 @@ use Rattle.std.specs.Prelude.{◌≡◌, ◌+◌, ◌<◌, ◌≤◌, get_or, []
 use Rattle.std.proofs.Math.Path.{refl, sym}
 use Rattle.std.proofs.Common.{ap, ◌∙◌, arith}
 use Rattle.standard.specs.Bands.{row_of, long_rows, long_start}
-use Rattle.standard.proofs.BandsLaws.{long-tops, long-rises, long-within, long-past}
+use Rattle.standard.specs.BandsLaws.{long-tops, long-rises, long-within, long-past}
 use Rattle.standard.specs.Numbers.{window_regions, regions_by}
 use Rattle.standard.specs.declared.SampleRate.{SampleRate}
 use Rattle.standard.specs.declared.SlotRecord.{SlotRecord}

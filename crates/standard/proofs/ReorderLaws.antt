@@ -7,7 +7,7 @@ use Rattle.std.proofs.Math.Numerals.{add-one}
 use native.Mathlib.Omega.{arith}
 use Rattle.std.proofs.Math.ListN.{length, get_or, drop}
 use Rattle.standard.specs.Bands.{row_of, short_rows, short_start}
-use Rattle.standard.proofs.BandsLaws.{row_lt, short_rising, starts-at_0, rises, tops, lasts}
+use Rattle.standard.specs.BandsLaws.{row_lt, short_rising, starts-at_0, rises, tops, lasts}
 use Rattle.standard.specs.RowsLaws.{every, rows_long}
 use Rattle.standard.specs.Told.{told, refused}
 use Rattle.standard.specs.ToldLaws.{never, both, picked, passed}

@@ -25,3 +25,6 @@ pub mod RowsLaws
 pub mod SameLaws
 pub mod Written
 pub mod CopyLaws
+pub mod CrcLaws
+pub mod BandsLaws
+pub mod LengthsLaws

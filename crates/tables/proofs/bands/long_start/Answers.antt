@@ -5,7 +5,7 @@ use mathlib.Core.List.{[]}
 use Prim.Native.Nat.{ℕ, ◌<◌}
 use lib.ListN.{get_or}
 use Rattle.standard.specs.Bands.{row_of, long_rows, long_start}
-use Rattle.standard.proofs.BandsLaws.{long-within, long-past}
+use Rattle.standard.specs.BandsLaws.{long-within, long-past}
 use Rattle.standard.specs.declared.SampleRate.{SampleRate}
 use Rattle.standard.specs.declared.SampleRate.TheVariants.{Hz44100, Hz48000, Hz32000, Hz22050, Hz24000, Hz16000, Hz11025, Hz12000, Hz8000}
 use Rattle.tables.proofs.bands.long_start.Goals as goal

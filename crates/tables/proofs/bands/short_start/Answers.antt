@@ -6,7 +6,7 @@ use Prim.Native.Nat.{ℕ}
 use native.Mathlib.Omega.{arith}
 use lib.ListN.{get_or}
 use Rattle.standard.specs.Bands.{short_rows}
-use Rattle.standard.proofs.BandsLaws.{row_lt, short_within, short_past}
+use Rattle.standard.specs.BandsLaws.{row_lt, short_within, short_past}
 use Rattle.tables.proofs.bands.short_start.Goals as goal
 
 -- was the goal bounds-1-result

@@ -3,7 +3,7 @@ use native.Mathlib.Omega.{arith}
 use mathlib.Core.List.{[]}
 use lib.ListN.{get_or}
 use Rattle.standard.specs.Lengths.{low_counts}
-use Rattle.standard.proofs.LengthsLaws.{range_lt}
+use Rattle.standard.specs.LengthsLaws.{range_lt}
 use Rattle.tables.proofs.lengths.lfs_counts.Goals as goal
 
 pub offset_bounds-rows-range : goal.offset_bounds-rows-range
