@@ -1,2 +1,3 @@
 mod Reading
+mod Source
 mod Within

@@ -31,6 +31,13 @@ not_failed e = absurd (let z : ◌≡◌ {A = ℕ} 0 1 = cc in omega arith)
 pub not_ended : {A : Type 0} → Ended ≡ Open → A
 not_ended e = absurd (let z : ◌≡◌ {A = ℕ} 0 1 = cc in omega arith)
 
+-- nor has one that failed or is open ended
+pub failed_ended : {A : Type 0} → Failed ≡ Ended → A
+failed_ended e = absurd (let z : ◌≡◌ {A = ℕ} 0 1 = cc in omega arith)
+
+pub open_ended : {A : Type 0} → Open ≡ Ended → A
+open_ended e = absurd (let z : ◌≡◌ {A = ℕ} 0 1 = cc in omega arith)
+
 pub begin : (old : List ℕ) (n : ℕ) → n ≤ length old → Reading old old n n
 begin old n h = record { more = omega arith; within = h; long = refl; kept = refl }
 

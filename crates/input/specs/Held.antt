@@ -1,5 +1,7 @@
 -- The held part of an input. Everything goes by the unread bytes: which they are in lent bytes, and that sliding and filling keep them.
-use Rattle.std.specs.Prelude.{◌≡◌, List, ◌++◌, ℕ, ◌+◌, ◌≤◌, ◌<◌, min, length, take, drop}
+use Rattle.std.specs.Prelude.{◌≡◌, List, [], ◌++◌, ℕ, ◌+◌, ◌≤◌, ◌<◌, min, length, take, drop}
+use Rattle.std.specs.Io.KnownBytes.{Consumes, IsAtEnd}
+use Rattle.std.specs.declared.option.Option.{Option}
 use Rattle.input.specs.declared.Held.{Held}
 use Rattle.input.specs.declared.Filled.{Filled}
 use Rattle.input.specs.declared.Got.{Got}
@@ -25,6 +27,12 @@ abbrev pub GotIn : ℕ → Got → Type 0
 GotIn n (Bytes k) = (0 < k) × (k ≤ n)
 GotIn n Nothing = Unit {0}
 GotIn n Error = Unit {0}
+
+-- of a reader whose bytes are known, what a read got is its first ones, and it got none only where no more are left
+abbrev pub GotFrom : Option (List ℕ) → Option (List ℕ) → Got → List ℕ → Type 0
+GotFrom old new (Bytes k) left = Consumes old new (take k left)
+GotFrom old new Nothing left = Consumes old new [] × (0 < length left → IsAtEnd new)
+GotFrom old new Error left = Consumes old new []
 
 -- read behind the first n bytes, which stay; the input is open only where all of the lent bytes are filled
 pub record ReadOn (old : List ℕ) (n : ℕ) (r : Filled) (left : List ℕ) : Type 0 where

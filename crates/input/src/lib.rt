@@ -1,8 +1,10 @@
 // An input of any length, read piece by piece: lent bytes hold a part of it, and a record says which of them are still unread.
 #![tactic(auto)]
 
-ghost use Rattle.std.specs.Prelude.{◌≡◌, ◌≤◌, length};
-ghost use Rattle.input.specs.Held.{unread_of, taken_of, Slid, GotIn, ReadOn, FilledUp};
+ghost use Rattle.std.specs.Prelude.{◌≡◌, ◌≤◌, length, take, drop};
+ghost use Rattle.std.specs.Io.KnownBytes.{Consumes, IsAtEnd};
+ghost use Rattle.input.specs.Held.{unread_of, taken_of, Slid, GotIn, GotFrom, ReadOn, FilledUp};
+ghost use Rattle.input.specs.declared.Input.TheVariants.{Ended};
 
 use lent_bytes::{least, slide};
 use std::io::Read;
@@ -83,7 +85,8 @@ fn slid(bytes: &mut [u8], held: Held) -> Held
 }
 
 fn read_once<R: Read>(reader: &mut R, bytes: &mut [u8]) -> Got
-    ensures { GotIn (length bytes.old) result }
+    ensures within { GotIn (length bytes.old) result }
+    ensures source { GotFrom (R.remaining reader.old) (R.remaining reader.new) result bytes.new }
 {
     match reader.read(bytes) {
         Err(_) => Got::Error,
@@ -108,7 +111,10 @@ fn up_to(end: usize, input: Input) -> Filled
 // Reads behind the first n bytes until all of the lent bytes are filled, the input ends or a read fails.
 fn read_on<R: Read>(reader: &mut R, bytes: &mut [u8], n: usize) -> Filled
     requires { n ≤ length bytes.old }
-    ensures { ReadOn bytes.old n result bytes.new }
+    ensures read { ReadOn bytes.old n result bytes.new }
+    ensures source { Consumes (R.remaining reader.old) (R.remaining reader.new)
+        (drop n (take result.held.end bytes.new)) }
+    ensures ended { result.input ≡ Ended → IsAtEnd (R.remaining reader.new) }
 {
     let mut end = n;
     while end < bytes.len() {
@@ -122,9 +128,13 @@ fn read_on<R: Read>(reader: &mut R, bytes: &mut [u8], n: usize) -> Filled
 }
 
 // Slides the unread bytes to the front and reads behind them. Which bytes come is the reader's to say; the unread ones stay, and
-// the input is told to be open only where all of the lent bytes are filled.
+// the input is told to be open only where all of the lent bytes are filled. Of a reader that says which bytes it has left, those behind
+// the unread ones are its next, and it is told to have ended only where none is left.
 pub fn fill<R: Read>(reader: &mut R, bytes: &mut [u8], held: Held) -> Filled
-    ensures { FilledUp bytes.old held result bytes.new }
+    ensures filled { FilledUp bytes.old held result bytes.new }
+    ensures source { Consumes (R.remaining reader.old) (R.remaining reader.new)
+        (drop (length (unread_of bytes.old held)) (unread_of bytes.new result.held)) }
+    ensures ended { result.input ≡ Ended → IsAtEnd (R.remaining reader.new) }
 {
     let c = slid(&mut *bytes, held);
     let end = c.end;
