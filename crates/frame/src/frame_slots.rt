@@ -23,7 +23,7 @@ fn was_refused(o: SlotOutcome) -> bool
 
 // What a slot may share with: whether its channel's granule 0 slot was refused, and that slot's long factors. A slot of granule 0
 // shares with none.
-#[derive(Drop)]
+#[derive(Clone, Copy)]
 struct Mate {
     lost: bool,
     old: [u8; 22],

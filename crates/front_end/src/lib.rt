@@ -27,7 +27,7 @@ mod rows;
 
 // What a call answers: 0 or the number of the refusal; after refusal 2 the offset of the first byte that was needed and absent, else 0.
 #[repr(C)]
-#[derive(Drop)]
+#[derive(Clone, Copy)]
 pub struct CallTold {
     pub refusal: u8,
     pub offset: usize,
@@ -36,7 +36,7 @@ pub struct CallTold {
 // What a frame answers: what a call does, the frame's length, how many bytes its main data begins before its own, and the reservoir's
 // length for the next frame.
 #[repr(C)]
-#[derive(Drop)]
+#[derive(Clone, Copy)]
 pub struct FrameTold {
     pub refusal: u8,
     pub offset: usize,
@@ -48,7 +48,7 @@ pub struct FrameTold {
 // What a header says of its frame: what a call does; bytes of the frame, of its header, side information and main
 // data; granules, channels, samples for a second, bits for a second.
 #[repr(C)]
-#[derive(Drop)]
+#[derive(Clone, Copy)]
 pub struct Sizes {
     pub refusal: u8,
     pub offset: usize,

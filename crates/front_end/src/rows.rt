@@ -23,7 +23,7 @@ pub(crate) const ROWS: usize = 4 * ROW;
 // Says that the frame has no such slot; no refusal has this number.
 const LACKING: u16 = 255;
 
-#[derive(Drop)]
+#[derive(Clone, Copy)]
 struct Said {
     number: u16,
     count: u16,

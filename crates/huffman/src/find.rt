@@ -51,7 +51,7 @@ fn chosen(t: &[u16], link: usize, word: u64, gone: usize) -> usize
 }
 
 // What a lookup found: a leaf of the table, and how many bits its codeword has.
-#[derive(Drop)]
+#[derive(Clone, Copy)]
 pub(crate) struct Found {
     pub leaf: usize,
     pub used: usize,

@@ -101,7 +101,7 @@ pub fn quad(count1: bool, s: &[u8], at: usize, end: usize) -> Quad
 }
 
 // How many numbers of a slot were coded, or why it is refused.
-#[derive(Drop)]
+#[derive(Clone, Copy)]
 pub enum HuffmanAnswer {
     Counted { count: u16 },
     Uncounted(Refusal),

@@ -8,14 +8,14 @@ ghost use Rattle.huffman.specs.Owns.{Owns};
 use standard::{Magnitude, Number, Pair, Refusal};
 
 // A number that was read: what it is, and how many bits it has.
-#[derive(Drop)]
+#[derive(Clone, Copy)]
 struct Numeral {
     value: i32,
     used: usize,
 }
 
 // Two numbers, and how many bits they have.
-#[derive(Drop)]
+#[derive(Clone, Copy)]
 pub(crate) struct Both {
     pub x: i32,
     pub y: i32,
@@ -23,7 +23,7 @@ pub(crate) struct Both {
 }
 
 // A magnitude, and how many bits its escape has.
-#[derive(Drop)]
+#[derive(Clone, Copy)]
 struct Grown {
     value: u32,
     used: usize,

@@ -1,7 +1,7 @@
 // How a frame's side information is laid out, by its version and channels.
 ghost use Rattle.record_check.specs.Layouts.{LaidOut};
 
-#[derive(Drop)]
+#[derive(Clone, Copy)]
 pub struct Layout {
     pub main_data_begin: usize, // bits of main_data_begin
     pub prefix: usize, // bits before the sharing bits

@@ -18,7 +18,7 @@ use plan::{group_bits, plan_of, width_of};
 use standard::{Plan, Setting, Shape, SlotRecord};
 
 // The factors of a slot: how many bits they take (part2_length), the long ones, and three windows of thirteen short bands one after the other.
-#[derive(Drop)]
+#[derive(Clone, Copy)]
 pub struct Factors {
     pub bits: u32,
     pub long: [u8; 22],

@@ -13,7 +13,7 @@ use record_check::given::{compress_width, first_region, second_region};
 use standard::{BlockType, MOST_BIG_VALUES, Refusal, SlotRecord, Verdict};
 
 // What every record has, whatever its window.
-#[derive(Drop)]
+#[derive(Clone, Copy)]
 pub(crate) struct Common {
     pub part2_3_length: u16,
     pub big_values: u16,
@@ -25,7 +25,7 @@ pub(crate) struct Common {
 }
 
 // A record; of a refused one, what stands in the slot says nothing.
-#[derive(Drop)]
+#[derive(Clone, Copy)]
 pub(crate) struct RecordAnswer {
     pub verdict: Verdict,
     pub slot: SlotRecord,

@@ -9,7 +9,7 @@ use crate::record::{absent_record, read_record, record_width};
 use standard::{SlotRecord, Verdict};
 
 // Records of slots, and of lacking ones; of refused records, what stands in the slots says nothing.
-#[derive(Drop)]
+#[derive(Clone, Copy)]
 pub(crate) struct RecordsAnswer {
     pub verdict: Verdict,
     pub slots: [SlotRecord; 4],
