@@ -1,6 +1,6 @@
 /* The front end of an MP3 Layer III reader, from the bytes on a card to the whole numbers of each slot, for C and C++.
 
-   Link with libfront_end.a, which `rt staticlib front_end` makes (x86-64). It needs memcpy and memset and nothing else, allocates
+   Link with libfront_end.a, which `scripts/archive` makes in target/staticlib (x86-64). It needs memcpy and memset and nothing else, allocates
    nothing, keeps nothing between calls, and every call returns for every input. So calls may run in several threads at once, as long as
    each has its own lent memory. What each answer means for a card is in docs/REFUSALS.md.
 
@@ -32,7 +32,7 @@ extern "C" {
 #define FRONT_END_NUMBERS 2304   /* numbers of a frame's slots: FRONT_END_SLOTS x FRONT_END_SLOT */
 #define FRONT_END_ROW 71         /* numbers in a slot's row (front_end_slot) */
 #define FRONT_END_ROWS (FRONT_END_SLOTS * FRONT_END_ROW) /* numbers in the rows of a frame */
-#define FRONT_END_STACK 16384    /* bytes of stack that a call needs, at most; measured are 11,256 (bindings/c/stack.c) */
+#define FRONT_END_STACK 16384    /* bytes of stack that a call needs, at most; measured are 10,888 (bindings/c/stack.c) */
 #define FRONT_END_FRAME 1441     /* bytes of the longest frame: so many, if the card has them, are always enough */
 
 /* ---- answers: 0 where a call is accepted, else one of these */

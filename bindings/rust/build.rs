@@ -11,7 +11,7 @@ fn main() {
     let own = Path::new(&env::var("CARGO_MANIFEST_DIR").unwrap()).join("../../target/staticlib");
     let folder = env::var("FRONT_END_LIB").unwrap_or_else(|_| own.display().to_string());
     let archive = format!("{}/libfront_end.a", folder);
-    assert!(Path::new(&archive).exists(), "{} is missing: `rt staticlib front_end` makes it", archive);
+    assert!(Path::new(&archive).exists(), "{} is missing: `scripts/archive` makes it", archive);
     println!("cargo:rerun-if-changed={}", archive);
     println!("cargo:rustc-link-search=native={}", folder);
     println!("cargo:rustc-link-lib=static=front_end");
