@@ -5,10 +5,6 @@ use native.Mathlib.Omega.{arith}
 use lib.ListN.{get_or-eq_default}
 use Rattle.bits.proofs.byte.Goals as goal
 
--- was the goal overflow-cast-result
--- cast-result : tie.Need-overflow-cast-result
--- cast-result c = omega (arith, c.shared-slice-known.given c.before.before.args.i)
-
 pub returns-then-i-s : goal.returns-then-i-s
 returns-then-i-s c = (refl, omega (arith, c.type_inv.s c.args.i))
 

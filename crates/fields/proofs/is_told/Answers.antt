@@ -4,10 +4,6 @@ use mathlib.Core.Path.{sym, ap}
 use Rattle.fields.specs.Values.{is_told}
 use Rattle.fields.proofs.is_told.Goals as goal
 
--- by hand
--- pub is_told_spec : {M : Type 1} → statement M
--- is_told_spec = tie.close (tie.spec (λ c. search rules) (λ c. search rules) (λ c κs. search rules) (λ c κs. search rules) returns returns-2)
-
 pub returns-in-Accepted : goal.returns-in-Accepted
 unfolding is_told
 returns-in-Accepted c = sym (ap is_told c.in-Accepted.is)

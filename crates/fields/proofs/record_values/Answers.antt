@@ -8,22 +8,19 @@ use Rattle.fields.proofs.record_values.Goals as goal
 pub returns : goal.returns
 unfolding record_values
 returns c =
-    let i = c in
-    let m = i in
-    let b = m in
-    let r = b.args.r in
+    let r = c.args.r in
     λ j. r.part2_3_length
     ∷ r.big_values
     ∷ r.global_gain
     ∷ r.scalefac_compress
-    ∷ (b.wide.ensures ∙ b.block_number.ensures) j
-    ∷ (m.wide-2.ensures ∙ m.bit_of.ensures) j
-    ∷ (i.wide-3.ensures ∙ m.gain_number.ensures) j
-    ∷ (i.wide-4.ensures ∙ i.gain_number-2.ensures) j
-    ∷ (i.wide-5.ensures ∙ i.gain_number-3.ensures) j
-    ∷ i.wide-6.ensures j
-    ∷ i.wide-7.ensures j
-    ∷ i.wide-8.ensures j
+    ∷ (c.wide.ensures ∙ c.block_number.ensures) j
+    ∷ (c.wide-2.ensures ∙ c.bit_of.ensures) j
+    ∷ (c.wide-3.ensures ∙ c.gain_number.ensures) j
+    ∷ (c.wide-4.ensures ∙ c.gain_number-2.ensures) j
+    ∷ (c.wide-5.ensures ∙ c.gain_number-3.ensures) j
+    ∷ c.wide-6.ensures j
+    ∷ c.wide-7.ensures j
+    ∷ c.wide-8.ensures j
     ∷ r.region0_count
     ∷ r.region1_count
     ∷ (c.wide-9.ensures ∙ c.bit_of-2.ensures) j

@@ -7,7 +7,6 @@ use Rattle.fields.proofs.side_values.Goals as goal
 pub returns : goal.returns
 unfolding side_values
 returns c =
-    let i = c in
     rw (
       c.wide-8.ensures,
       c.bit_of-8.ensures,
@@ -17,12 +16,12 @@ returns c =
       c.bit_of-6.ensures,
       c.wide-5.ensures,
       c.bit_of-5.ensures,
-      i.wide-4.ensures,
-      i.bit_of-4.ensures,
-      i.wide-3.ensures,
-      i.bit_of-3.ensures,
-      i.wide-2.ensures,
-      i.bit_of-2.ensures,
-      i.wide.ensures,
-      i.bit_of.ensures,
+      c.wide-4.ensures,
+      c.bit_of-4.ensures,
+      c.wide-3.ensures,
+      c.bit_of-3.ensures,
+      c.wide-2.ensures,
+      c.bit_of-2.ensures,
+      c.wide.ensures,
+      c.bit_of.ensures,
     ) refl

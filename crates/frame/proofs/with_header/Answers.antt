@@ -26,10 +26,9 @@ slice_bounds-with_main-end c =
 
 pub returns-in-Refused : goal.returns-in-Refused
 returns-in-Refused c =
-    let o = c in
     step-refused
-    (frame-no_side _ _ o.requires.3
-    (side_read o.args.h o.args.frame.now (λ i. omega (arith, c.type_inv.frame i)) o.requires.3 ∙ answered_refused c.side_under-a.ensures c.in-Refused.is))
+    (frame-no_side _ _ c.requires.3
+    (side_read c.args.h c.args.frame.now (λ i. omega (arith, c.type_inv.frame i)) c.requires.3 ∙ answered_refused c.side_under-a.ensures c.in-Refused.is))
     c.refused.ensures refl refl
 
 pub overflow_cast-offset : goal.overflow_cast-offset
@@ -39,24 +38,21 @@ overflow_cast-offset c =
 
 pub returns-then-there-frame_length : goal.returns-then-there-frame_length
 returns-then-there-frame_length c =
-    let o = c in
     step-refused
-    (frame-absent _ _ o.requires.3
-    (side_read o.args.h o.args.frame.now (λ i. omega (arith, c.type_inv.frame i)) o.requires.3 ∙ answered_told c.side_under-a.ensures c.in_default.is)
+    (frame-absent _ _ c.requires.3
+    (side_read c.args.h c.args.frame.now (λ i. omega (arith, c.type_inv.frame i)) c.requires.3 ∙ answered_told c.side_under-a.ensures c.in_default.is)
     (omega (arith, c.if-there-frame_length.true, c.frame_length.ensures))) c.refused-then-there-frame_length.ensures refl refl
 
 pub overflow_add-from : goal.overflow_add-from
 overflow_add-from c =
-    let o = c in
-    let h = o.args.h in
-    let k = header-known o.args.frame.now o.args.h (λ i. omega (arith, c.type_inv.frame i)) o.requires.3 in
+    let h = c.args.h in
+    let k = header-known c.args.frame.now c.args.h (λ i. omega (arith, c.type_inv.frame i)) c.requires.3 in
     record { fits = omega (arith, c.header_size.ensures, c.side_size.ensures, parts h k, frame-length_le h k) }
 
 pub overflow_add-to : goal.overflow_add-to
 overflow_add-to c =
-    let o = c in
-    let h = o.args.h in
-    let k = header-known o.args.frame.now o.args.h (λ i. omega (arith, c.type_inv.frame i)) o.requires.3 in
+    let h = c.args.h in
+    let k = header-known c.args.frame.now c.args.h (λ i. omega (arith, c.type_inv.frame i)) c.requires.3 in
     record {
       fits = omega
           (arith, c.header_size.ensures, c.side_size.ensures, c.main_size.ensures, parts h k, frame-length_le h k);
@@ -64,19 +60,18 @@ overflow_add-to c =
 
 pub with_main-requires : goal.with_main-requires
 with_main-requires c =
-    let o = c in
-    let h = o.args.h in
-    let t = (side_read o.args.h o.args.frame.now (λ i. omega (arith, c.type_inv.frame i)) o.requires.3 ∙ answered_told c.side_under-a.ensures c.in_default.is) in
-    let k = header-known o.args.frame.now o.args.h (λ i. omega (arith, c.type_inv.frame i)) o.requires.3 in
+    let h = c.args.h in
+    let t = (side_read c.args.h c.args.frame.now (λ i. omega (arith, c.type_inv.frame i)) c.requires.3 ∙ answered_told c.side_under-a.ensures c.in_default.is) in
+    let k = header-known c.args.frame.now c.args.h (λ i. omega (arith, c.type_inv.frame i)) c.requires.3 in
     let hs = c.header_size.ensures in
     let ss = c.side_size.ensures in
     let ms = c.main_size.ensures in (
-      o.requires.0,
-      o.requires.1,
-      o.requires.2,
+      c.requires.0,
+      c.requires.1,
+      c.requires.2,
       k,
       side_known _ _ _ k t,
-      main_length h o.args.frame.now k
+      main_length h c.args.frame.now k
           (omega (
             arith,
             c.if-there-frame_length.false,
@@ -86,12 +81,11 @@ with_main-requires c =
 
 pub returns : goal.returns
 returns c =
-    let o = c in
     let hs = c.header_size.ensures in
     let ss = c.side_size.ensures in
     let ms = c.main_size.ensures in
-    whole-frame o.args.frame.now o.args.h _ o.requires.3
-    (side_read o.args.h o.args.frame.now (λ i. omega (arith, c.type_inv.frame i)) o.requires.3 ∙ answered_told c.side_under-a.ensures c.in_default.is)
+    whole-frame c.args.frame.now c.args.h _ c.requires.3
+    (side_read c.args.h c.args.frame.now (λ i. omega (arith, c.type_inv.frame i)) c.requires.3 ∙ answered_told c.side_under-a.ensures c.in_default.is)
     (omega (
       arith,
       c.if-there-frame_length.false,

@@ -8,17 +8,15 @@ use Rattle.frame.proofs.with_main.Goals as goal
 
 pub returns-in-Refused : goal.returns-in-Refused
 returns-in-Refused c =
-    let o = c in
     step-short _ refl
-    (fits_turn o.args.h o.args.i o.args.main.now o.requires.0 o.requires.1 o.requires.3 o.requires.4 o.requires.5
+    (fits_turn c.args.h c.args.i c.args.main.now c.requires.0 c.requires.1 c.requires.3 c.requires.4 c.requires.5
     c.turn-a.ensures) c.in-Refused.is
     (refl, refl, refl, c.frame_length-length.ensures, c.lacking_slots-slots.ensures, refl) refl
 
 pub slice_bounds-slots_from-end : goal.slice_bounds-slots_from-end
 slice_bounds-slots_from-end c =
-    let o = c in
     kept_within _
-    (fits_turn o.args.h o.args.i o.args.main.now o.requires.0 o.requires.1 o.requires.3 o.requires.4 o.requires.5
+    (fits_turn c.args.h c.args.i c.args.main.now c.requires.0 c.requires.1 c.requires.3 c.requires.4 c.requires.5
     c.turn-a.ensures)
 
 pub slice_bounds-slots_from-end-2 : goal.slice_bounds-slots_from-end-2
@@ -30,9 +28,8 @@ slice_bounds-slots_from-end-2 c =
 
 pub returns : goal.returns
 returns c =
-    let o = c in
     step-full _ refl
-    (fits_turn o.args.h o.args.i o.args.main.now o.requires.0 o.requires.1 o.requires.3 o.requires.4 o.requires.5
+    (fits_turn c.args.h c.args.i c.args.main.now c.requires.0 c.requires.1 c.requires.3 c.requires.4 c.requires.5
     c.turn-a.ensures)
     c.in_default.is c.slots_from-slots.ensures
     (refl, refl, refl, c.frame_length-length.ensures, refl)

@@ -8,5 +8,4 @@ returns-then-rows-lt-ROWS c = frame-few (room_few _ _ _ _ _ c.if-rows-lt-ROWS.tr
 
 pub returns : goal.returns
 returns c =
-    let o = c in
-    frame-done (room_fits _ _ _ _ _ o.if-rows-lt-ROWS.false) o.process_frame-a.ensures c.tell-t.ensures
+    frame-done (room_fits _ _ _ _ _ c.if-rows-lt-ROWS.false) c.process_frame-a.ensures c.tell-t.ensures

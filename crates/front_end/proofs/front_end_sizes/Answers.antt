@@ -7,9 +7,8 @@ use Rattle.front_end.proofs.front_end_sizes.Goals as goal
 pub returns-in-NoHeader : goal.returns-in-NoHeader
 unfolding sizes_told
 returns-in-NoHeader c =
-    let o = c in
     (λ j. record {
-      refusal = o.number_of.ensures j;
+      refusal = c.number_of.ensures j;
       offset = c.offset_of.ensures j;
       length = 0;
       header = 0;
@@ -20,7 +19,7 @@ returns-in-NoHeader c =
       rate = 0;
       bitrate = 0;
     })
-    ∙ sym (ap sizes_told (sym o.read_frame_header.ensures ∙ ap told_header o.in-NoHeader.is))
+    ∙ sym (ap sizes_told (sym c.read_frame_header.ensures ∙ ap told_header c.in-NoHeader.is))
 
 pub returns-in-Header : goal.returns-in-Header
 returns-in-Header c =

@@ -8,21 +8,18 @@ use Rattle.front_end.proofs.slots_under.Goals as goal
 
 pub returns-in-Refused : goal.returns-in-Refused
 returns-in-Refused c =
-    let o = c in
-    let a = o.args in
+    let a = c.args in
     slots-refused c.in-Refused.why
-    (slots-fit a.frame.now a.main.now _ _ (neither (le-ltb _ _ o.requires.0) (le-ltb _ _ o.requires.1))
-    ∙ under-no_side _ _ o.requires.2 (answered_refused c.read_side_info-a.ensures c.in-Refused.is))
+    (slots-fit a.frame.now a.main.now _ _ (neither (le-ltb _ _ c.requires.0) (le-ltb _ _ c.requires.1))
+    ∙ under-no_side _ _ c.requires.2 (answered_refused c.read_side_info-a.ensures c.in-Refused.is))
     c.told_of.ensures refl refl
 
 pub returns : goal.returns
 returns c =
-    let m = c in
-    let o = m in
-    let a = o.args in
-    let side = answered_told m.read_side_info-a.ensures m.in_default.is in
+    let a = c.args in
+    let side = answered_told c.read_side_info-a.ensures c.in_default.is in
     slots-done
-    (records-in a.frame.now o.requires.2 side)
-    (slots-fit a.frame.now a.main.now _ _ (neither (le-ltb _ _ o.requires.0) (le-ltb _ _ o.requires.1))
-    ∙ under-both _ _ o.requires.2 side)
+    (records-in a.frame.now c.requires.2 side)
+    (slots-fit a.frame.now a.main.now _ _ (neither (le-ltb _ _ c.requires.0) (le-ltb _ _ c.requires.1))
+    ∙ under-both _ _ c.requires.2 side)
     c.read_slots-s.ensures c.tell.ensures

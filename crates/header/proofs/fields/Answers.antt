@@ -46,5 +46,5 @@ bounds-rates-b2 c = search rules
 pub returns : goal.returns
 unfolding fields
 returns c =
-    let d = c in let e = d in rw
-    (d.emphasis_of-emphasis.ensures, d.channels_of-channels.ensures, d.rates-rates.ensures, e.bitrates-bitrates.ensures, e.version_of-version.ensures)
+    rw
+    (c.emphasis_of-emphasis.ensures, c.channels_of-channels.ensures, c.rates-rates.ensures, c.bitrates-bitrates.ensures, c.version_of-version.ensures)

@@ -28,5 +28,5 @@ returns-else-within c =
 pub returns : goal.returns
 unfolding bitrates
 returns c =
-    let d = c in let a = d.args in rw
-    (as_mpeg2 bitrates refl a.v (sym d.is_mpeg1.ensures ∙ c.if-is_mpeg1.false), (bitrate_rows a.b).1, c.within-2.ensures, d.bps-n.ensures)
+    let a = c.args in rw
+    (as_mpeg2 bitrates refl a.v (sym c.is_mpeg1.ensures ∙ c.if-is_mpeg1.false), (bitrate_rows a.b).1, c.within-2.ensures, c.bps-n.ensures)

@@ -31,8 +31,8 @@ no_bytes-requires-then-frame-lt2 c = search rules
 pub returns-then-frame-lt2 : goal.returns-then-frame-lt2
 unfolding header_of pick
 returns-then-frame-lt2 c =
-    let d = c in c.no_bytes-then-frame-lt2.ensures
-    ∙ simp (lt-leb _ _ d.if-frame-lt1.false, eq-eqb _ _ d.if-frame.false, le-leb _ _ (le_of_suc-le-suc d.if-frame-lt2.true))
+    c.no_bytes-then-frame-lt2.ensures
+    ∙ simp (lt-leb _ _ c.if-frame-lt1.false, eq-eqb _ _ c.if-frame.false, le-leb _ _ (le_of_suc-le-suc c.if-frame-lt2.true))
 
 pub second_byte-requires : goal.second_byte-requires
 unfolding header_of pick
@@ -41,5 +41,5 @@ second_byte-requires c = search rules
 pub returns : goal.returns
 unfolding header_of pick
 returns c =
-    let d = c in c.second_byte.ensures
-    ∙ simp (lt-leb _ _ d.if-frame-lt1.false, eq-eqb _ _ d.if-frame.false, lt-leb _ _ d.if-frame-lt2.false)
+    c.second_byte.ensures
+    ∙ simp (lt-leb _ _ c.if-frame-lt1.false, eq-eqb _ _ c.if-frame.false, lt-leb _ _ c.if-frame-lt2.false)

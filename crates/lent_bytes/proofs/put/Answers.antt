@@ -7,10 +7,6 @@ use Rattle.standard.specs.CopyLaws.{copying_begin, copying_turn, copying_end}
 use Rattle.lent_bytes.specs.Put.{room_for}
 use Rattle.lent_bytes.proofs.put.Goals as goal
 
--- was the goal same-length
--- same_length : tie.Need-same-length invariant-loop decreases-loop
--- same_length c = c.before.loop.invariant.1.long
-
 pub loop-i-init : goal.loop-i-init
 loop-i-init c = (omega arith, copying_begin _ _ _)
 

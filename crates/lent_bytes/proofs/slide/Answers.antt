@@ -7,10 +7,6 @@ use Rattle.lent_bytes.specs.Put.{slid_of}
 use Rattle.standard.specs.CopyLaws.{copying_begin, copying_turn, copying_end, slide_next}
 use Rattle.lent_bytes.proofs.slide.Goals as goal
 
--- was the goal same-length
--- same_length : tie.Need-same-length invariant-loop decreases-loop
--- same_length c = c.before.loop.invariant.1.long
-
 pub loop-i-init : goal.loop-i-init
 loop-i-init c = (omega arith, copying_begin _ _ 0)
 

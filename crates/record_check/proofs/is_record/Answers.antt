@@ -6,5 +6,4 @@ use Rattle.record_check.proofs.is_record.Goals as goal
 
 pub returns : goal.returns
 returns c =
-    let m = c in
-    c.fits_record.ensures ∙ (λ j. is_record (m.is_mpeg1.ensures j) (c.is_slow.ensures j) m.args.r)
+    c.fits_record.ensures ∙ (λ j. is_record (c.is_mpeg1.ensures j) (c.is_slow.ensures j) c.args.r)

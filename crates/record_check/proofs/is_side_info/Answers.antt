@@ -7,6 +7,4 @@ use Rattle.record_check.proofs.is_side_info.Goals as goal
 pub returns : goal.returns
 unfolding is_side
 returns c =
-    let t = c in
-    let m = t in
-    c.fits_side.ensures ∙ (λ j. is_side_by (m.is_mpeg1.ensures j) (t.is_two.ensures j) (c.is_slow.ensures j) m.args.i)
+    c.fits_side.ensures ∙ (λ j. is_side_by (c.is_mpeg1.ensures j) (c.is_two.ensures j) (c.is_slow.ensures j) c.args.i)

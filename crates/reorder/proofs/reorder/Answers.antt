@@ -11,10 +11,6 @@ use Rattle.standard.specs.Reorder.{first_short, reordered_from}
 use Rattle.standard.proofs.ReorderLaws.{few_numbers, made_up, in_order, first-le}
 use Rattle.reorder.proofs.reorder.Goals as goal
 
--- was the goal same-length
--- same_length : tie.Need-same-length
--- same_length c = search rules
-
 pub returns-then-numbers-lt-SLOT_NUMBERS : goal.returns-then-numbers-lt-SLOT_NUMBERS
 returns-then-numbers-lt-SLOT_NUMBERS c = answers_refused (few_numbers _ _ _ c.if-numbers-lt-SLOT_NUMBERS.true)
 
@@ -25,14 +21,13 @@ reorder_from-requires c =
 
 pub returns-then-is_record : goal.returns-then-is_record
 returns-then-is_record c =
-    let tests = c in
-    let header = sym tests.is_header.ensures ∙ tests.if-is_header.true in
-    let slot = sym tests.is_record.ensures ∙ tests.if-is_record.true in
+    let header = sym c.is_header.ensures ∙ c.if-is_header.true in
+    let slot = sym c.is_record.ensures ∙ c.if-is_record.true in
     let first = c.first_short-first.ensures ∙ ap first_short c.shape_of.ensures in
-    let a = tests.args in
+    let a = c.args in
     rw c.reorder_from.ensures
     (answers_told
-    (in_order _ _ _ tests.if-numbers-lt-SLOT_NUMBERS.false header slot
+    (in_order _ _ _ c.if-numbers-lt-SLOT_NUMBERS.false header slot
     ∙ ap (λ (k : ℕ). told (reordered_from a.h.rate k a.numbers.now)) (sym first)))
 
 pub returns-else-is_record : goal.returns-else-is_record

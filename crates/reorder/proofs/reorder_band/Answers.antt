@@ -13,10 +13,6 @@ use Rattle.standard.specs.CopyLaws.{copying_begin, copying_end}
 use Rattle.reorder.proofs.Bands.{band_turn}
 use Rattle.reorder.proofs.reorder_band.Goals as goal
 
--- was the goal same-length
--- same_length : tie.Need-same-length invariant-loop decreases-loop
--- same_length c = c.before.loop.invariant.2.long
-
 pub loop-j-init : goal.loop-j-init
 loop-j-init c = (omega arith, omega arith, copying_begin _ _ _)
 

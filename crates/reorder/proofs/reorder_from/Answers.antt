@@ -6,10 +6,6 @@ use Rattle.standard.proofs.ReorderLaws.{short_tops}
 use Rattle.reorder.proofs.Bands.{ordered-begin, ordered-turn, ordered_end, within}
 use Rattle.reorder.proofs.reorder_from.Goals as goal
 
--- was the goal same-length
--- same_length : tie.Need-same-length invariant-loop decreases-loop
--- same_length c = c.before.loop.invariant.long
-
 pub first_576-old-requires : goal.first_576-old-requires
 first_576-old-requires c = c.requires.1
 

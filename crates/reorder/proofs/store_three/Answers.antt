@@ -3,10 +3,6 @@ use native.Mathlib.Omega.{arith}
 use lib.ListN.{length-set}
 use Rattle.reorder.proofs.store_three.Goals as goal
 
--- was the goal same-length
--- same_length : tie.Need-same-length
--- same_length c = search rules
-
 pub bounds-numbers-at-2 : goal.bounds-numbers-at-2
 bounds-numbers-at-2 c = simp length-set (omega arith)
 

@@ -11,14 +11,6 @@ use Rattle.standard.proofs.ReservoirLaws.{few_lent, much_stated, too_long, short
 use Rattle.lent_bytes.specs.PutLaws.{put_whole, slid_whole}
 use Rattle.reservoir.proofs.turn.Goals as goal
 
--- was the goal same-length
--- same_length : tie.Need-same-length
--- same_length c = search rules
-
--- was the goal same-length-2
--- same-length-2 : tie.Need-same-length-2
--- same-length-2 c = search rules
-
 pub returns-then-bytes-lt-RESERVOIR_BYTES : goal.returns-then-bytes-lt-RESERVOIR_BYTES
 returns-then-bytes-lt-RESERVOIR_BYTES c = unfit-turned (few_lent _ _ _ _ c.if-bytes-lt-RESERVOIR_BYTES.true) c.refused.ensures refl
 

@@ -5,12 +5,10 @@ use Rattle.side_info.proofs.read_side_info.Goals as goal
 
 pub returns-then-not-is_header : goal.returns-then-not-is_header
 returns-then-not-is_header c =
-    let d = c in
-    let a = d.args in
-    c.no_side.ensures _ (side_made_up a.h a.frame.now d.is_header.ensures c.if-not-is_header.true)
+    let a = c.args in
+    c.no_side.ensures _ (side_made_up a.h a.frame.now c.is_header.ensures c.if-not-is_header.true)
 
 pub returns : goal.returns
 returns c =
-    let d = c in
-    let a = d.args in
-    rw (side_known a.h a.frame.now d.is_header.ensures c.if-not-is_header.false) c.side_under.ensures
+    let a = c.args in
+    rw (side_known a.h a.frame.now c.is_header.ensures c.if-not-is_header.false) c.side_under.ensures

@@ -8,9 +8,6 @@ read_after-requires c = header-small _ c.header_size-from.ensures
 
 pub returns : goal.returns
 returns c =
-    let t = c in
-    let m = t in
-    let f = m in
-    let a = f.args in
-    rw (by_parts a.h a.frame.now f.header_size-from.ensures m.is_mpeg1-mpeg1.ensures t.is_two-two.ensures c.is_slow.ensures)
+    let a = c.args in
+    rw (by_parts a.h a.frame.now c.header_size-from.ensures c.is_mpeg1-mpeg1.ensures c.is_two-two.ensures c.is_slow.ensures)
     c.read_after.ensures

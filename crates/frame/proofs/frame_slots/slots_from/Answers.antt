@@ -39,9 +39,8 @@ bounds-i-k c = omega (arith, four_at_most c.args.h)
 
 pub mate_of-m-requires : goal.mate_of-m-requires
 mate_of-m-requires c =
-    let o = c in
-    let h = o.args.h in
-    (omega (arith, o.loop-k.invariant.0, four_at_most h), omega (arith, o.loop-k.invariant.1, some_channels h))
+    let h = c.args.h in
+    (omega (arith, c.loop-k.invariant.0, four_at_most h), omega (arith, c.loop-k.invariant.1, some_channels h))
 
 pub setting_of-g-requires : goal.setting_of-g-requires
 setting_of-g-requires c = omega (arith, c.loop-k.invariant.0)

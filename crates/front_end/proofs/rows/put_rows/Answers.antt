@@ -17,12 +17,11 @@ put_row-requires c = omega (arith, c.loop-k.invariant.1)
 
 pub loop-k-preserved : goal.loop-k-preserved
 loop-k-preserved c =
-    let o = c in
-    let a = o.args in (
+    let a = c.args in (
       omega arith,
       search rules,
-      ap (rows_from (per_row * (o.loop-k.k + 1)) (drop (o.loop-k.k + 1) a.records) (drop (o.loop-k.k + 1) a.slots)) c.put_row.ensures
-          ∙ rows-turn a.records a.slots _ _ o.loop-k.k _ _ (search rules) (search rules) (omega arith) o.loop-k.invariant.2,
+      ap (rows_from (per_row * (c.loop-k.k + 1)) (drop (c.loop-k.k + 1) a.records) (drop (c.loop-k.k + 1) a.slots)) c.put_row.ensures
+          ∙ rows-turn a.records a.slots _ _ c.loop-k.k _ _ (search rules) (search rules) (omega arith) c.loop-k.invariant.2,
     )
 
 pub returns : goal.returns

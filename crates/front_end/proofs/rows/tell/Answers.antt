@@ -16,9 +16,8 @@ returns-in-Refused c =
 pub returns-in-Accepted : goal.returns-in-Accepted
 unfolding rows_after
 returns-in-Accepted c =
-    let o = c in
-    let a = o.args in
-    let given = o.in-Accepted.is in (
+    let a = c.args in
+    let given = c.in-Accepted.is in (
       c.accepted.ensures ∙ sym (ap (λ (x : Verdict). call_told x) given),
-      o.put_rows.ensures ∙ sym (ap (λ (x : Verdict). rows_after x a.records a.slots a.rows.now) given),
+      c.put_rows.ensures ∙ sym (ap (λ (x : Verdict). rows_after x a.records a.slots a.rows.now) given),
     )

@@ -8,15 +8,13 @@ use Rattle.record_check.proofs.checks.fits_record.Goals as goal
 pub returns-then-is_long : goal.returns-then-is_long
 unfolding is_record
 returns-then-is_long c =
-    let d = c in
-    let r = d.args.r in
-    let e = picked {x = is_long_body r} (is_switched_body r) (sym d.is_long.ensures ∙ c.if-is_long.true) in
+    let r = c.args.r in
+    let e = picked {x = is_long_body r} (is_switched_body r) (sym c.is_long.ensures ∙ c.if-is_long.true) in
     cc
 
 pub returns : goal.returns
 unfolding is_record
 returns c =
-    let d = c in
-    let r = d.args.r in
-    let e = passed (is_long_body r) {y = is_switched_body r} (sym d.is_long.ensures ∙ c.if-is_long.false) in
+    let r = c.args.r in
+    let e = passed (is_long_body r) {y = is_switched_body r} (sym c.is_long.ensures ∙ c.if-is_long.false) in
     cc

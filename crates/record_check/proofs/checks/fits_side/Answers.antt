@@ -6,8 +6,6 @@ use Rattle.record_check.proofs.checks.fits_side.Goals as goal
 
 pub returns : goal.returns
 returns c =
-    let b = c in
-    let l = b in
-    let a = l.args in
-    side_is a.mpeg1 a.two a.slow a.i l.layout_of-l.ensures.same (omega (arith, l.layout_of-l.ensures.begin_few)) b.no_shares-a.ensures
-    b.slots_fit-b.ensures
+    let a = c.args in
+    side_is a.mpeg1 a.two a.slow a.i c.layout_of-l.ensures.same (omega (arith, c.layout_of-l.ensures.begin_few)) c.no_shares-a.ensures
+    c.slots_fit-b.ensures

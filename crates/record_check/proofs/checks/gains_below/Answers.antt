@@ -10,8 +10,7 @@ use Rattle.record_check.proofs.checks.gains_below.Goals as goal
 
 pub returns : goal.returns
 returns c =
-    let d = c in
-    let a = d.args in
+    let a = c.args in
     let l : length a.g ≡ 3 = search rules in
-    rw (d.gain_number-a.ensures, c.gain_number-b.ensures, c.gain_number-c.ensures)
+    rw (c.gain_number-a.ensures, c.gain_number-b.ensures, c.gain_number-c.ensures)
     (trio-of (gain_below a.n) (gain_below a.n) (gain_below a.n) nan a.g l)

@@ -6,5 +6,4 @@ use Rattle.record_check.proofs.checks.is_absent.Goals as goal
 pub returns : goal.returns
 unfolding is_absent no_head no_body no_tail
 returns c =
-    let d = c in
-    rw (d.tables_below.ensures, d.gains_below.ensures, d.is_long.ensures)
+    rw (c.tables_below.ensures, c.gains_below.ensures, c.is_long.ensures)

@@ -7,14 +7,13 @@ use Rattle.record_check.proofs.Tests.{head_is}
 use Rattle.record_check.proofs.checks.is_head.Goals as goal
 
 pub overflow_cast-result : goal.overflow_cast-result
-overflow_cast-result c = let d = c in omega (arith, d.compress_width-c.ensures, width d.args.mpeg1)
+overflow_cast-result c = omega (arith, c.compress_width-c.ensures, width c.args.mpeg1)
 
 pub overflow_shl-result : goal.overflow_shl-result
-overflow_shl-result c = let d = c in omega (arith, d.compress_width-c.ensures, width d.args.mpeg1)
+overflow_shl-result c = omega (arith, c.compress_width-c.ensures, width c.args.mpeg1)
 
 pub returns : goal.returns
 returns c =
-    let d = c in
-    let a = d.args in
+    let a = c.args in
     let h : a.r.global_gain < 256 = omega (arith, c.struct_known-5-1.given) in
-    head_is a.mpeg1 a.r d.compress_width-c.ensures h
+    head_is a.mpeg1 a.r c.compress_width-c.ensures h

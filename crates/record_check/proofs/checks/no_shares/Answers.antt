@@ -14,25 +14,22 @@ loop-i-init c = all_begin _ _
 
 pub returns-then-n-i : goal.returns-then-n-i
 returns-then-n-i c =
-    let d = c in
-    let a = d.args in
+    let a = c.args in
     let l : length a.s ≡ 8 = search rules in
-    let h : d.loop-i.i < length a.s = omega arith in
-    sym (all_stop (shares_from a.n) (share_test a.n) (shares_step a.n) false d.loop-i.invariant h (ap not c.if-n-i.true)) ∙ shares_are a.n a.s l
+    let h : c.loop-i.i < length a.s = omega arith in
+    sym (all_stop (shares_from a.n) (share_test a.n) (shares_step a.n) false c.loop-i.invariant h (ap not c.if-n-i.true)) ∙ shares_are a.n a.s l
 
 pub loop-i-preserved : goal.loop-i-preserved
 loop-i-preserved c =
-    let d = c in
-    let a = d.args in
+    let a = c.args in
     let l : length a.s ≡ 8 = search rules in
-    let h : d.loop-i.i < length a.s = omega arith in
-    all_turn (shares_from a.n) (share_test a.n) (shares_step a.n) false d.loop-i.invariant h (ap not c.if-n-i.false)
+    let h : c.loop-i.i < length a.s = omega arith in
+    all_turn (shares_from a.n) (share_test a.n) (shares_step a.n) false c.loop-i.invariant h (ap not c.if-n-i.false)
 
 pub returns : goal.returns
 returns c =
-    let d = c in
-    let a = d.args in
+    let a = c.args in
     let l : length a.s ≡ 8 = search rules in
-    let h : length a.s ≤ d.loop-i.i = omega arith in
-    sym (all_end (shares_from a.n) (share_test a.n) (shares_step a.n) false d.loop-i.invariant h (shares_none a.n (length a.s)))
+    let h : length a.s ≤ c.loop-i.i = omega arith in
+    sym (all_end (shares_from a.n) (share_test a.n) (shares_step a.n) false c.loop-i.invariant h (shares_none a.n (length a.s)))
     ∙ shares_are a.n a.s l

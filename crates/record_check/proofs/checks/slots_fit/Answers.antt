@@ -14,30 +14,27 @@ loop-i-init c = all_begin _ _
 
 pub returns-then-not-slot_fits : goal.returns-then-not-slot_fits
 returns-then-not-slot_fits c =
-    let d = c in
-    let a = d.args in
+    let a = c.args in
     let l : length a.s ≡ 4 = search rules in
-    let h : d.loop-i.i < length a.s = omega arith in
+    let h : c.loop-i.i < length a.s = omega arith in
     sym (all_stop (slots_from a.mpeg1 a.slow a.n) (slot_test a.mpeg1 a.slow a.n) (slots-step a.mpeg1 a.slow a.n) past_record
-    d.loop-i.invariant h
+    c.loop-i.invariant h
     (sym c.slot_fits.ensures ∙ c.if-not-slot_fits.true)) ∙ slots-are a.mpeg1 a.slow a.n a.s l
 
 pub loop-i-preserved : goal.loop-i-preserved
 loop-i-preserved c =
-    let d = c in
-    let a = d.args in
+    let a = c.args in
     let l : length a.s ≡ 4 = search rules in
-    let h : d.loop-i.i < length a.s = omega arith in
-    all_turn (slots_from a.mpeg1 a.slow a.n) (slot_test a.mpeg1 a.slow a.n) (slots-step a.mpeg1 a.slow a.n) past_record d.loop-i.invariant h
+    let h : c.loop-i.i < length a.s = omega arith in
+    all_turn (slots_from a.mpeg1 a.slow a.n) (slot_test a.mpeg1 a.slow a.n) (slots-step a.mpeg1 a.slow a.n) past_record c.loop-i.invariant h
     (sym c.slot_fits.ensures ∙ c.if-not-slot_fits.false)
 
 pub returns : goal.returns
 returns c =
-    let d = c in
-    let a = d.args in
+    let a = c.args in
     let l : length a.s ≡ 4 = search rules in
-    let h : length a.s ≤ d.loop-i.i = omega arith in
+    let h : length a.s ≤ c.loop-i.i = omega arith in
     let k : a.n ≤ length a.s = omega arith in
     sym (all_end (slots_from a.mpeg1 a.slow a.n) (slot_test a.mpeg1 a.slow a.n) (slots-step a.mpeg1 a.slow a.n) past_record
-    d.loop-i.invariant h
+    c.loop-i.invariant h
     (slots-none a.mpeg1 a.slow a.n (length a.s) k)) ∙ slots-are a.mpeg1 a.slow a.n a.s l

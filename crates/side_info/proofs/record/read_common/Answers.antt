@@ -26,9 +26,7 @@ overflow_sub-end-2 c = omega (arith, width c.args.mpeg1)
 
 pub returns : goal.returns
 returns c =
-    let d = c in
-    let p = d in
-    let a = p.args in
-    let x = compress_there a.mpeg1 a.s.now a.at p.compress_width-c.ensures p.word-compress.ensures in
-    common_read a.mpeg1 a.s.now a.at p.word-head.ensures x c.record_width.ensures (d.read_preflag-preflag.ensures x)
+    let a = c.args in
+    let x = compress_there a.mpeg1 a.s.now a.at c.compress_width-c.ensures c.word-compress.ensures in
+    common_read a.mpeg1 a.s.now a.at c.word-head.ensures x c.record_width.ensures (c.read_preflag-preflag.ensures x)
     c.bit-scale.ensures c.bit-count1.ensures

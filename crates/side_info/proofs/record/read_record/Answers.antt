@@ -13,10 +13,7 @@ overflow_add-at-2 c = omega (arith, width c.args.mpeg1)
 
 pub returns : goal.returns
 returns c =
-    let v = c in
-    let w = v in
-    let k = w in
-    let a = k.args in
-    let window = w.word-w.ensures ∙ ap (λ (n : ℕ). field_at a.s.now (a.at + 29 + n) 23) w.compress_width-c.ensures in
-    let parts : PartsAt a.mpeg1 a.s.now a.at _ _ = record { common = k.read_common-k.ensures; window = window } in
-    record { verdict = v.verdict_of-verdict.ensures _ _ _ _ parts refl; value = λ x f. c.slot_of-slot.ensures _ _ _ _ x parts f }
+    let a = c.args in
+    let window = c.word-w.ensures ∙ ap (λ (n : ℕ). field_at a.s.now (a.at + 29 + n) 23) c.compress_width-c.ensures in
+    let parts : PartsAt a.mpeg1 a.s.now a.at _ _ = record { common = c.read_common-k.ensures; window = window } in
+    record { verdict = c.verdict_of-verdict.ensures _ _ _ _ parts refl; value = λ x f. c.slot_of-slot.ensures _ _ _ _ x parts f }

@@ -16,32 +16,26 @@ absent_from-offset-requires c = (needed_small c.args.crc c.needed_from.ensures (
 
 pub returns-then-frame-end : goal.returns-then-frame-end
 returns-then-frame-end c =
-    let o = c in
-    let l = o in
-    let a = l.args in
+    let a = c.args in
     c.no_side.ensures _
-    (side_short a.crc a.mpeg1 a.two a.slow a.from a.frame.now l.layout_of-l.ensures.same o.if-frame-end.true
+    (side_short a.crc a.mpeg1 a.two a.slow a.from a.frame.now c.layout_of-l.ensures.same c.if-frame-end.true
     ∙ sym (ap (λ (n : ℕ). refused (AbsentBytes n))
     (c.absent_from-offset.ensures ∙ ap (λ (n : ℕ). absent_from n (length a.frame.now)) c.needed_from.ensures)))
 
 pub returns-then-fails : goal.returns-then-fails
 returns-then-fails c =
-    let o = c in
-    let l = o in
-    let a = l.args in
+    let a = c.args in
     c.no_side-then-fails.ensures _
-    (side_wrong a.crc a.mpeg1 a.two a.slow a.from a.frame.now l.layout_of-l.ensures.same o.if-frame-end.false
+    (side_wrong a.crc a.mpeg1 a.two a.slow a.from a.frame.now c.layout_of-l.ensures.same c.if-frame-end.false
     c.fails.ensures c.if-fails.true)
 
 pub read_bits-requires : goal.read_bits-requires
-read_bits-requires c = let l = c in (search rules, (l.args.two, l.layout_of-l.ensures))
+read_bits-requires c = (search rules, (c.args.two, c.layout_of-l.ensures))
 
 pub returns : goal.returns
 returns c =
-    let o = c in
-    let l = o in
-    let a = l.args in
+    let a = c.args in
     rw
-    (side_whole a.crc a.mpeg1 a.two a.slow a.from a.frame.now l.layout_of-l.ensures.same o.if-frame-end.false
+    (side_whole a.crc a.mpeg1 a.two a.slow a.from a.frame.now c.layout_of-l.ensures.same c.if-frame-end.false
     c.fails.ensures c.if-fails.false)
-    (c.read_bits.ensures a.two l.layout_of-l.ensures)
+    (c.read_bits.ensures a.two c.layout_of-l.ensures)

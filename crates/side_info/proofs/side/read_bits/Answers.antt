@@ -7,30 +7,19 @@ use Rattle.side_info.proofs.Cuts.{nine_below}
 use Rattle.side_info.proofs.Sides.{side_refused, side_told}
 use Rattle.side_info.proofs.side.read_bits.Goals as goal
 
--- was the goal enum-known-v
--- enum-known-v : tie.Need-enum-known-v
--- enum-known-v c = search rules
-
--- was the goal enum-told
--- enum_told : tie.Need-enum-told
--- enum_told c = search rules
-
 pub overflow_cast-begin : goal.overflow_cast-begin
 overflow_cast-begin c =
-    let d = c in
-    let h : d.args.l.main_data_begin ≤ 9 = d.requires.1.1.begin_few in
+    let h : c.args.l.main_data_begin ≤ 9 = c.requires.1.1.begin_few in
     omega (arith, nine_below _ _ h c.word-begin.ensures)
 
 pub returns-in-Refused : goal.returns-in-Refused
 returns-in-Refused c two l =
-    let r = c in
     c.no_side.ensures _
-    (side_refused _ _ _ _ _ l.same r.read_records-x.ensures c.in-Refused.is)
+    (side_refused _ _ _ _ _ l.same c.read_records-x.ensures c.in-Refused.is)
 
 pub returns-in-Accepted : goal.returns-in-Accepted
 returns-in-Accepted c two l =
-    let r = c in
-    let Told-here = side_told _ _ _ _ _ l.same r.read_records-x.ensures
+    let Told-here = side_told _ _ _ _ _ l.same c.read_records-x.ensures
     c.in-Accepted.is in
     rw (c.in-Accepted.is, c.word-begin.ensures, c.read_shares-shares.ensures)
     (answers_told Told-here)

@@ -8,8 +8,7 @@ loop-i-init c = shares_begin _ _ _
 
 pub loop-i-preserved : goal.loop-i-preserved
 loop-i-preserved c =
-    let d = c in
-    shares_turn d.loop-i.invariant c.bit-x.ensures c.loop-i-test.true d.requires.1
+    shares_turn c.loop-i.invariant c.bit-x.ensures c.loop-i-test.true c.requires.1
 
 pub returns : goal.returns
 returns c = shares_end c.loop-i.invariant c.loop-i-test.false

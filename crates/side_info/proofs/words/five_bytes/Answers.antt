@@ -9,18 +9,16 @@ pub loop-k-init : goal.loop-k-init
 loop-k-init c = (omega arith, bytes-none _ _)
 
 pub overflow_mul-v : goal.overflow_mul-v
-overflow_mul-v c = let d = c in omega (arith, bytes_below _ _ _ d.loop-k.invariant.1 c.loop-k-test.true)
+overflow_mul-v c = omega (arith, bytes_below _ _ _ c.loop-k.invariant.1 c.loop-k-test.true)
 
 pub overflow_add-v : goal.overflow_add-v
 overflow_add-v c =
-    let d = c in
-    omega (arith, bytes_below _ _ _ d.loop-k.invariant.1 c.loop-k-test.true, byte-below _ _ c.one_byte-x.ensures)
+    omega (arith, bytes_below _ _ _ c.loop-k.invariant.1 c.loop-k-test.true, byte-below _ _ c.one_byte-x.ensures)
 
 pub loop-k-preserved : goal.loop-k-preserved
-loop-k-preserved c = let d = c in (omega arith, bytes-more _ _ _ d.loop-k.invariant.1 c.one_byte-x.ensures)
+loop-k-preserved c = (omega arith, bytes-more _ _ _ c.loop-k.invariant.1 c.one_byte-x.ensures)
 
 pub returns : goal.returns
 returns c =
-    let d = c in
-    let e : d.loop-k.k ≡ 5 = omega arith in
-    rw e at d.loop-k.invariant.1
+    let e : c.loop-k.k ≡ 5 = omega arith in
+    rw e at c.loop-k.invariant.1

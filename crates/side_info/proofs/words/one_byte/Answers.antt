@@ -6,10 +6,6 @@ use lib.ListN.{get_or-eq_default}
 use Rattle.standard.specs.BitsLaws.{byte-value}
 use Rattle.side_info.proofs.words.one_byte.Goals as goal
 
--- was the goal overflow-cast-result
--- cast-result : tie.Need-overflow-cast-result
--- cast-result c = omega (arith, c.shared-slice-known.given c.before.before.args.i)
-
 pub returns-then-i-s : goal.returns-then-i-s
 returns-then-i-s c =
     let a = c.args in

@@ -4,7 +4,7 @@ use Rattle.side_info.proofs.Cuts.{mask_pos, within}
 use Rattle.side_info.proofs.words.word.Goals as goal
 
 pub nonzero_rem-result-2 : goal.nonzero_rem-result-2
-nonzero_rem-result-2 c = let d = c in mask_pos d.args.n d.requires
+nonzero_rem-result-2 c = mask_pos c.args.n c.requires
 
 pub returns : goal.returns
-returns c = let d = c in within d.args.s.now d.args.at d.args.n d.requires c.five_bytes-v.ensures
+returns c = within c.args.s.now c.args.at c.args.n c.requires c.five_bytes-v.ensures

@@ -9,14 +9,6 @@ use Rattle.standard.specs.Bands.{short_rows}
 use Rattle.standard.specs.BandsLaws.{row_lt, short_within, short_past}
 use Rattle.tables.proofs.bands.short_start.Goals as goal
 
--- was the goal bounds-1-result
--- index-1-result : tie.Need-bounds-1-result
--- index-1-result c = omega (arith, c.before.row_of.ensures, row_lt c.before.before.args.rate)
-
--- was the goal bounds-2-result
--- index-2-result : tie.Need-bounds-2-result
--- index-2-result c = search rules
-
 pub offset_bounds-row : goal.offset_bounds-row
 offset_bounds-row c = omega (arith, c.row_of-row.ensures, row_lt c.args.rate)
 

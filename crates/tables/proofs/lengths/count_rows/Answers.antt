@@ -4,18 +4,6 @@ use mathlib.Core.Bool.{Bool, false}
 use Rattle.standard.specs.Lengths.{long_counts, short_counts, mixed_counts, count_rows}
 use Rattle.tables.proofs.lengths.count_rows.Goals as goal
 
--- was the goal enum-told
--- enum_told : tie.Need-enum-told
--- enum_told c = search rules
-
--- was the goal enum-told-2
--- enum-told-2 : tie.Need-enum-told-2
--- enum-told-2 c = search rules
-
--- was the goal enum-told-3
--- enum-told-3 : tie.Need-enum-told-3
--- enum-told-3 c = search rules
-
 pub returns-in-AllLong : goal.returns-in-AllLong
 unfolding long_counts
 returns-in-AllLong c =

@@ -7,30 +7,6 @@ use lib.ListN.{get_or, get_or-eq_default}
 use Rattle.standard.specs.Lengths.{slen_rows, slen1, slen2}
 use Rattle.tables.proofs.lengths.factor_lengths.Goals as goal
 
--- was the goal overflow-mul-t21
--- mul-t21 : tie.Need-overflow-mul-t21
--- mul-t21 c = search rules
-
--- was the goal bounds-1-t26
--- index-1-t26 : tie.Need-bounds-1-t26
--- index-1-t26 c = search rules
-
--- was the goal bounds-2-t26
--- index-2-t26 : tie.Need-bounds-2-t26
--- index-2-t26 c = search rules
-
--- was the goal overflow-mul-t44
--- mul-t44 : tie.Need-overflow-mul-t44
--- mul-t44 c = search rules
-
--- was the goal bounds-1-t49
--- index-1-t49 : tie.Need-bounds-1-t49
--- index-1-t49 c = search rules
-
--- was the goal bounds-2-t49
--- index-2-t49 : tie.Need-bounds-2-t49
--- index-2-t49 c = search rules
-
 pub returns-then-row-lt16 : goal.returns-then-row-lt16
 unfolding slen1 slen2 slen_rows
 returns-then-row-lt16 c = (refl, refl)

@@ -4,18 +4,6 @@ use mathlib.Core.Bool.{true}
 use Rattle.standard.specs.Lengths.{intensity_long_counts, intensity_short_counts, intensity_mixed_counts, count_rows}
 use Rattle.tables.proofs.lengths.intensity_rows.Goals as goal
 
--- was the goal enum-told
--- enum_told : tie.Need-enum-told
--- enum_told c = search rules
-
--- was the goal enum-told-2
--- enum-told-2 : tie.Need-enum-told-2
--- enum-told-2 c = search rules
-
--- was the goal enum-told-3
--- enum-told-3 : tie.Need-enum-told-3
--- enum-told-3 c = search rules
-
 pub returns-in-AllLong : goal.returns-in-AllLong
 unfolding intensity_long_counts
 returns-in-AllLong c = ap (count_rows true) (sym c.in-AllLong.is)
