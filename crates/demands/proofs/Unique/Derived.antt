@@ -10,7 +10,7 @@ use Rattle.derived.proofs.is_two.Reads as is-two
 use Rattle.derived.proofs.is_two.Kinds as is-two-kinds
 use Rattle.derived.proofs.is_intensity.Reads as is-intensity
 use Rattle.derived.proofs.is_intensity.Kinds as is-intensity-kinds
-use Rattle.derived.proofs.shape_of.Reads as shape_of
+use Rattle.derived.proofs.shape_of.Reads as shape-of
 use Rattle.derived.proofs.shape_of.Kinds as shape-of-kinds
 use Rattle.derived.proofs.is_mixed.Reads as is-mixed
 use Rattle.derived.proofs.is_mixed.Kinds as is-mixed-kinds
@@ -22,7 +22,7 @@ use Rattle.derived.proofs.header_size.Reads as header-size
 use Rattle.derived.proofs.header_size.Kinds as header-size-kinds
 use Rattle.derived.proofs.frame_length.Reads as frame-length
 use Rattle.derived.proofs.frame_length.Kinds as frame-length-kinds
-use Rattle.derived.proofs.side_size.Reads as side_size_lem
+use Rattle.derived.proofs.side_size.Reads as side-size
 use Rattle.derived.proofs.side_size.Kinds as side-size-kinds
 use Rattle.derived.proofs.main_size.Reads as main-size
 use Rattle.derived.proofs.main_size.Kinds as main-size-kinds
@@ -30,7 +30,7 @@ use Rattle.derived.proofs.granules.Reads as granules
 use Rattle.derived.proofs.granules.Kinds as granules-kinds
 use Rattle.derived.proofs.channel_count.Reads as channel-count
 use Rattle.derived.proofs.channel_count.Kinds as channel-count-kinds
-use Rattle.derived.proofs.number_of.Reads as number_of_lem
+use Rattle.derived.proofs.number_of.Reads as number-of
 use Rattle.derived.proofs.number_of.Kinds as number-of-kinds
 use Rattle.derived.proofs.offset_of.Reads as offset-of
 use Rattle.derived.proofs.offset_of.Kinds as offset-of-kinds
@@ -50,7 +50,7 @@ is_two_unique κs a x y s t p q = alike p q
 pub is_intensity_unique : OneAnswer is-intensity-kinds.ps is-intensity-kinds.r is-intensity.Post
 is_intensity_unique κs a x y s t p q = alike p q
 
-pub shape_of_unique : OneAnswer shape-of-kinds.ps shape-of-kinds.r shape_of.Post
+pub shape_of_unique : OneAnswer shape-of-kinds.ps shape-of-kinds.r shape-of.Post
 shape_of_unique κs a x y s t p q = alike p q
 
 pub is_mixed_unique : OneAnswer is-mixed-kinds.ps is-mixed-kinds.r is-mixed.Post
@@ -68,7 +68,7 @@ header-size_unique κs a x y s t p q = alike p q
 pub frame-length_unique : OneAnswer frame-length-kinds.ps frame-length-kinds.r frame-length.Post
 frame-length_unique κs a x y s t p q = alike p q
 
-pub side_size_unique : OneAnswer side-size-kinds.ps side-size-kinds.r side_size_lem.Post
+pub side_size_unique : OneAnswer side-size-kinds.ps side-size-kinds.r side-size.Post
 side_size_unique κs a x y s t p q = alike p q
 
 pub main_size_unique : OneAnswer main-size-kinds.ps main-size-kinds.r main-size.Post
@@ -80,7 +80,7 @@ granules-unique κs a x y s t p q = alike p q
 pub channel_count_unique : OneAnswer channel-count-kinds.ps channel-count-kinds.r channel-count.Post
 channel_count_unique κs a x y s t p q = alike p q
 
-pub number_of_unique : OneAnswer number-of-kinds.ps number-of-kinds.r number_of_lem.Post
+pub number_of_unique : OneAnswer number-of-kinds.ps number-of-kinds.r number-of.Post
 number_of_unique κs a x y s t p q = alike p q
 
 pub offset_of_unique : OneAnswer offset-of-kinds.ps offset-of-kinds.r offset-of.Post

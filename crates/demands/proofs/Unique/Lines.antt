@@ -2,7 +2,7 @@
 use Rattle.demands.proofs.Call.{OneShown, OneState, alike}
 use Rattle.lines.proofs.put_frame.Reads as put-frame
 use Rattle.lines.proofs.put_frame.Kinds as put-frame-kinds
-use Rattle.lines.proofs.put_refused.Reads as Put-refused
+use Rattle.lines.proofs.put_refused.Reads as put-refused
 use Rattle.lines.proofs.put_refused.Kinds as put-refused-kinds
 use Rattle.lines.proofs.put_end.Reads as put-end
 use Rattle.lines.proofs.put_end.Kinds as put-end-kinds
@@ -20,7 +20,7 @@ use Rattle.lines.proofs.text.put_signed.Kinds as put-signed-kinds
 pub put_frame_unique : OneState put-frame-kinds.ps put-frame-kinds.r put-frame.Post (λ κs s. s.0.now)
 put_frame_unique κs a x y s t p q = (alike p.next q.next, alike p.bytes q.bytes)
 
-pub put_refused_unique : OneState put-refused-kinds.ps put-refused-kinds.r Put-refused.Post (λ κs s. s.0.now)
+pub put_refused_unique : OneState put-refused-kinds.ps put-refused-kinds.r put-refused.Post (λ κs s. s.0.now)
 put_refused_unique κs a x y s t p q = (alike p.next q.next, alike p.bytes q.bytes)
 
 pub put_end_unique : OneState put-end-kinds.ps put-end-kinds.r put-end.Post (λ κs s. s.0.now)

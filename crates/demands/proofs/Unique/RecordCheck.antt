@@ -8,7 +8,7 @@ use Rattle.record_check.proofs.given.first_region.Reads as first-region
 use Rattle.record_check.proofs.given.first_region.Kinds as first-region-kinds
 use Rattle.record_check.proofs.given.second_region.Reads as second-region
 use Rattle.record_check.proofs.given.second_region.Kinds as second-region-kinds
-use Rattle.record_check.proofs.layout.layout_of.Reads as layout_of
+use Rattle.record_check.proofs.layout.layout_of.Reads as layout-of
 use Rattle.record_check.proofs.layout.layout_of.Kinds as layout-of-kinds
 use Rattle.record_check.proofs.is_record.Reads as is-record
 use Rattle.record_check.proofs.is_record.Kinds as is-record-kinds
@@ -27,7 +27,7 @@ first-region_unique κs a x y s t p q = alike p q
 pub second_region_unique : OneAnswer second-region-kinds.ps second-region-kinds.r second-region.Post
 second_region_unique κs a x y s t p q = alike p q
 
-pub layout_of_unique : OneAnswer layout-of-kinds.ps layout-of-kinds.r layout_of.Post
+pub layout_of_unique : OneAnswer layout-of-kinds.ps layout-of-kinds.r layout-of.Post
 layout_of_unique κs a x y s t p q = alike p.same q.same
 
 pub is_record_unique : OneAnswer is-record-kinds.ps is-record-kinds.r is-record.Post
