@@ -1,10 +1,10 @@
-// Lent main data and the bit place at which it is read. Each function over a reader is thin and leaves the work to a function of slices and
+// Lent main data and the bit place at which it is read. Each method is thin and leaves the work to a function of slices and
 // numbers; none needs a proof by hand.
 #![tactic(auto)]
 
 ghost use Rattle.std.specs.Prelude.{◌≡◌, min};
 ghost use Rattle.standard.specs.Bits.{field_at};
-ghost use Rattle.bit_reader.specs.Reader.{past, begun, here, ahead};
+ghost use Rattle.bit_reader.specs.Reader.{begun, here, ahead};
 
 #[derive(Clone, Copy)]
 pub struct BitReader<'a> {
@@ -12,59 +12,52 @@ pub struct BitReader<'a> {
     pub at: usize,
 }
 
-const LARGEST: usize = 18446744073709551615;
-
-// The place n bits on, or the largest where that lies past it.
-fn past_bits(at: usize, n: usize) -> usize
-    ensures { result ≡ past at n }
-{
-    if n < LARGEST - at {
-        return at + n;
+impl<'a> BitReader<'a> {
+    // A reader at the first bit.
+    pub fn new(bytes: &'a [u8]) -> BitReader<'a>
+        ensures { result ≡ begun bytes.entry }
+    {
+        BitReader { bytes, at: 0 }
     }
-    LARGEST
-}
 
-// A reader at the first bit.
-pub fn new<'a>(bytes: &'a [u8]) -> BitReader<'a>
-    ensures { result ≡ begun bytes.entry }
-{
-    BitReader { bytes, at: 0 }
-}
+    // The bit place at which a reader stands.
+    pub fn place(self) -> usize
+        ensures { result ≡ self.entry.at }
+    {
+        self.at
+    }
 
-// The bit place at which a reader stands.
-pub fn place<'a>(r: BitReader<'a>) -> usize
-    ensures { result ≡ r.entry.at }
-{
-    r.at
-}
+    // The field of n bits that comes next, read as `bits::field` does.
+    pub fn peek(self, n: usize) -> u16
+        ensures { result ≡ here self.entry n }
+    {
+        bits::field(self.bytes, self.at, n)
+    }
 
-// The field of n bits that comes next, read as `bits::field` does.
-pub fn peek<'a>(r: BitReader<'a>, n: usize) -> u16
-    ensures { result ≡ here r.entry n }
-{
-    bits::field(r.bytes, r.at, n)
-}
+    // The reader n bits on.
+    pub fn skip(self, n: usize) -> BitReader<'a>
+        ensures { result ≡ ahead self.entry n }
+    {
+        let at = self.at.saturating_add(n);
+        BitReader {
+            bytes: self.bytes,
+            at,
+        }
+    }
 
-// The reader n bits on.
-pub fn skip<'a>(r: BitReader<'a>, n: usize) -> BitReader<'a>
-    ensures { result ≡ ahead r.entry n }
-{
-    let at = past_bits(r.at, n);
-    BitReader { bytes: r.bytes, at }
-}
-
-// A peek and a skip in one: the field of n bits that comes next, and the reader stands past all of them.
-pub fn read<'s, 'a>(r: &'s mut BitReader<'a>, n: usize) -> u16
-    ensures { (result ≡ here r.old n) × (r.new ≡ ahead r.old n) }
-{
-    let value = bits::field(r.bytes, r.at, n);
-    r.at = past_bits(r.at, n);
-    value
+    // A peek and a skip in one: the field of n bits that comes next, and the reader stands past all of them.
+    pub fn read(&mut self, n: usize) -> u16
+        ensures { (result ≡ here self.old n) × (self.new ≡ ahead self.old n) }
+    {
+        let value = self.peek(n);
+        *self = self.skip(n);
+        value
+    }
 }
 
 // The field of n bits after the first `gap` bits. Its parameters are plain, so whoever calls it needs no reader.
 pub fn field_after(bytes: &[u8], gap: usize, n: usize) -> u16
     ensures { result ≡ field_at bytes.now gap (min n 16) }
 {
-    peek(skip(new(bytes), gap), n)
+    BitReader::new(bytes).skip(gap).peek(n)
 }

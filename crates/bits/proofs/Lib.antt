@@ -1,2 +1,2 @@
--- Why eight bytes are a number of 64 bits.
-pub mod Eights
+-- Why bytes side by side spell a number, and a field is cut out of eight.
+pub mod Spelt

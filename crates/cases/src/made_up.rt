@@ -1,47 +1,53 @@
 // The last frame's header and side information, with what a line makes up of them: none, `h`, or `r S NAME=V ..`.
-use crate::words::{byte_at, number, place_of};
+use crate::words::Words;
 use header::{no_header, read_frame_header};
 use side_info::read_side_info;
-use standard::{BlockType, FrameHeader, HeaderAnswer, SampleRate, SideInfo, SlotRecord};
+use standard::{BlockType, FrameHeader, SampleRate, SideInfo, SlotRecord};
 
 // A line names no more fields.
 const FIELDS: usize = 16;
 
 pub(crate) fn header_in(frame: &[u8]) -> FrameHeader {
-    match read_frame_header(frame) {
-        HeaderAnswer::Header(h) => h,
-        HeaderAnswer::NoHeader(_) => no_header(),
+    read_frame_header(frame).unwrap_or(no_header())
+}
+
+// A record of a slot that the frame lacks.
+fn absent_record() -> SlotRecord {
+    SlotRecord {
+        part2_3_length: 0,
+        big_values: 0,
+        global_gain: 0,
+        scalefac_compress: 0,
+        block_type: BlockType::Long,
+        mixed_block_flag: false,
+        subblock_gain: [0.0f32; 3],
+        table_select: [0u8; 3],
+        region0_count: 0,
+        region1_count: 0,
+        preflag: false,
+        scalefac_scale: false,
+        count1table_select: false,
     }
 }
 
+// Where it cannot be read, side information of absent records.
 fn side_in(frame: &[u8]) -> SideInfo {
-    let a = read_side_info(header_in(frame), frame);
-    let info = a.info;
-    info
+    read_side_info(header_in(frame), frame).unwrap_or(SideInfo {
+        main_data_begin: 0,
+        scfsi: [false; 8],
+        slots: [absent_record(); 4],
+    })
 }
 
 pub(crate) fn header_by(frame: &[u8], line: &[u8]) -> FrameHeader {
-    let old = header_in(frame);
-    if byte_at(line, 0) != b'h' {
-        return old;
+    let mut header = header_in(frame);
+    if let [b'h', ..] = line {
+        header.rate = SampleRate::Hz8000;
     }
-    let version = old.version;
-    let bitrate = old.bitrate;
-    let channels = old.channels;
-    let emphasis = old.emphasis;
-    FrameHeader {
-        version,
-        crc: old.crc,
-        bitrate,
-        rate: SampleRate::Hz8000,
-        padding: old.padding,
-        channels,
-        copyright: old.copyright,
-        original: old.original,
-        emphasis,
-    }
+    header
 }
 
+// By any number, which `side_info` has no word for: its bits spell 0 to 3 alone.
 fn block_of(n: usize) -> BlockType {
     match n {
         0 => BlockType::Long,
@@ -51,83 +57,39 @@ fn block_of(n: usize) -> BlockType {
     }
 }
 
-fn with_block(old: SlotRecord, block: BlockType) -> SlotRecord {
-    let gains = old.subblock_gain;
-    let tables = old.table_select;
-    SlotRecord {
-        part2_3_length: old.part2_3_length,
-        big_values: old.big_values,
-        global_gain: old.global_gain,
-        scalefac_compress: old.scalefac_compress,
-        block_type: block,
-        mixed_block_flag: old.mixed_block_flag,
-        subblock_gain: gains,
-        table_select: tables,
-        region0_count: old.region0_count,
-        region1_count: old.region1_count,
-        preflag: old.preflag,
-        scalefac_scale: old.scalefac_scale,
-        count1table_select: old.count1table_select,
-    }
-}
-
 // The last letter tells a field: big, region0, region1, type, mixed. By any other nothing is changed.
-fn with_field(old: SlotRecord, letter: u8, n: usize) -> SlotRecord {
-    let mut new = old;
-    if letter == b'e' {
-        return with_block(old, block_of(n));
+fn set_field(record: &mut SlotRecord, letter: u8, n: usize) {
+    match letter {
+        b'e' => record.block_type = block_of(n),
+        b'0' => record.region0_count = (n % 256) as u8,
+        b'1' => record.region1_count = (n % 256) as u8,
+        b'g' => record.big_values = (n % 65536) as u16,
+        b'd' => record.mixed_block_flag = 0 < n,
+        _ => {}
     }
-    if letter == b'0' {
-        new.region0_count = (n % 256) as u8;
-        return new;
-    }
-    if letter == b'1' {
-        new.region1_count = (n % 256) as u8;
-        return new;
-    }
-    if letter == b'g' {
-        new.big_values = (n % 65536) as u16;
-        return new;
-    }
-    if letter == b'd' {
-        new.mixed_block_flag = 0 < n;
-    }
-    new
 }
 
-fn with_fields(old: SlotRecord, line: &[u8], from: usize) -> SlotRecord {
+fn with_fields(old: SlotRecord, line: Words<'_>) -> SlotRecord {
     let mut new = old;
-    let mut at = from;
-    let mut turns = 0usize;
-    while turns < FIELDS {
-        if line.len() <= at {
-            return new;
+    let mut words = line;
+    for _ in 0..FIELDS {
+        if words.rest().is_empty() {
+            break;
         }
-        let end = place_of(line, at, b'=');
-        let n = number(line, end);
-        new = with_field(new, byte_at(line, end.wrapping_sub(1)), n.value);
-        at = n.next;
-        turns += 1;
+        words.find(|c| c == b'=');
+        let letter = words.last();
+        let n = words.number();
+        set_field(&mut new, letter, n);
     }
-    new
-}
-
-fn with_record(old: [SlotRecord; 4], line: &[u8]) -> [SlotRecord; 4] {
-    let slot = number(line, 0);
-    let mut new = old;
-    let record = new[slot.value % 4];
-    new[slot.value % 4] = with_fields(record, line, slot.next);
     new
 }
 
 pub(crate) fn side_by(frame: &[u8], line: &[u8]) -> SideInfo {
-    let old = side_in(frame);
-    if byte_at(line, 0) != b'r' {
-        return old;
+    let mut side = side_in(frame);
+    if let [b'r', ..] = line {
+        let mut words = Words::of(line);
+        let slot = words.number() % 4;
+        side.slots[slot] = with_fields(side.slots[slot], words);
     }
-    let records = old.slots;
-    let slots = with_record(records, line);
-    let mut new = old;
-    new.slots = slots;
-    new
+    side
 }

@@ -1,94 +1,72 @@
 // What the program `slots` writes of a card that is held whole: its lines, from an empty reservoir to the end or the first refusal.
-use crate::said::{say, say_put, say_slots};
+use crate::said::{say, say_slots, say_text};
+use derived::why_of;
 use frame::process_frame;
-use input::{Held, taken, unread};
-use lines::{put_end, put_frame, put_refused};
+use input::Held;
+use lines::Text;
 use reservoir::emptied;
-use standard::{FRAME_NUMBERS, FrameAnswer, Refusal, Reservoir, Verdict};
+use standard::{FRAME_NUMBERS, Reservoir};
 
-// What is unread, the reservoir, how many frames were accepted, and whether there is more to do.
-#[derive(Clone, Copy)]
-struct Run {
-    held: Held,
-    reservoir: Reservoir,
-    frames: u64,
-    going: bool,
-}
-
-// After a refusal nothing more is done.
-fn stopped(rt: &impl Print, old: Run, n: u64, why: Refusal) -> Run {
+// The n-th frame; answers its length, if it was accepted.
+fn say_frame(
+    rt: &impl Print,
+    frame: &[u8],
+    bytes: &mut [u8],
+    reservoir: &mut Reservoir,
+    n: u64,
+) -> Option<usize> {
     let mut out = [0u8; 4096];
-    let end = put_refused(&mut out, 0, n, why);
-    say_put(rt, &out, end);
-    let mut new = old;
-    new.going = false;
-    new
-}
-
-fn gone_on(rt: &impl Print, old: Run, n: u64, a: FrameAnswer, numbers: &[i32]) -> Run {
-    let mut out = [0u8; 4096];
-    let end = put_frame(&mut out, 0, n, a.length as u64);
-    say_put(rt, &out, end);
-    let header = a.header;
-    let slots = a.slots;
-    say_slots(rt, header, slots, numbers, false);
-    let held = old.held;
-    let reservoir = a.reservoir;
-    Run {
-        held: taken(held, a.length),
-        reservoir,
-        frames: n,
-        going: true,
-    }
-}
-
-fn tried(rt: &impl Print, frame: &[u8], bytes: &mut [u8], run: Run) -> Run {
-    let old = run.reservoir;
-    let n = run.frames.wrapping_add(1);
-    let mut numbers = [0i32; FRAME_NUMBERS];
-    let a = process_frame(frame, bytes, old, &mut numbers);
-    let verdict = a.verdict;
-    match verdict {
-        Verdict::Refused(why) => stopped(rt, run, n, why),
-        Verdict::Accepted => gone_on(rt, run, n, a, &numbers),
-    }
-}
-
-// The next frame, if there is more to do.
-fn step(rt: &impl Print, card: &[u8], bytes: &mut [u8], run: Run) -> Run {
-    let held = run.held;
-    let frame = unread(card, held);
-    if !run.going | (frame.len() == 0) {
-        return run;
-    }
-    tried(rt, frame, bytes, run)
-}
-
-// A frame has a byte at least, so there are no more frames than bytes.
-fn all_frames(rt: &impl Print, card: &[u8], bytes: &mut [u8]) -> u64 {
-    let mut run = Run {
-        held: Held {
-            from: 0,
-            end: card.len(),
-        },
-        reservoir: emptied(),
-        frames: 0,
-        going: true,
+    let mut text = Text {
+        bytes: &mut out,
+        at: 0,
     };
-    let mut turns = 0usize;
-    while turns < card.len() {
-        run = step(rt, card, &mut *bytes, run);
-        turns += 1;
+    let mut numbers = [0i32; FRAME_NUMBERS];
+    match process_frame(frame, bytes, reservoir, &mut numbers) {
+        Ok(read) => {
+            let head = read.head;
+            text.frame(n, head.length as u64);
+            say_text(rt, &text);
+            say_slots(rt, head.header, &read.slots, &numbers, false);
+            Some(head.length)
+        }
+        Err(refusal) => {
+            text.refused(n, why_of(refusal));
+            say_text(rt, &text);
+            None
+        }
     }
-    run.frames
+}
+
+// Answers how many frames were accepted. A frame has a byte at least, so there are no more frames than bytes.
+fn say_frames(rt: &impl Print, card: &[u8], bytes: &mut [u8]) -> u64 {
+    let mut held = Held {
+        from: 0,
+        end: card.len(),
+    };
+    let mut reservoir = emptied();
+    for n in 0..card.len() as u64 {
+        let frame = held.unread(card);
+        if frame.is_empty() {
+            return n;
+        }
+        let Some(length) = say_frame(rt, frame, &mut *bytes, &mut reservoir, n + 1) else {
+            return n;
+        };
+        held = held.taken(length);
+    }
+    card.len() as u64
 }
 
 // All that the program `slots` writes of a card.
 pub(crate) fn say_program(rt: &impl Print, card: &[u8]) {
     let mut bytes = [0u8; 4096];
-    let mut out = [0u8; 4096];
+    let mut out = [0u8; 64];
     say(rt, b"front end\n");
-    let frames = all_frames(rt, card, &mut bytes);
-    let end = put_end(&mut out, 0, frames);
-    say_put(rt, &out, end);
+    let frames = say_frames(rt, card, &mut bytes);
+    let mut text = Text {
+        bytes: &mut out,
+        at: 0,
+    };
+    text.end(frames);
+    say_text(rt, &text);
 }

@@ -49,15 +49,14 @@ pub fn with_bytes(c: u16, s: &[u8], from: usize, to: usize) -> u16
     ensures { result ≡ value (fed (bits_of 16 c) (between s.now (8 * from) (8 * to))) }
 {
     let mut word = c;
-    let mut i = from;
-    while i < to {
+    for i in from..to {
         word = with_byte(word, byte(s, i) as u16);
-        i += 1;
     }
     word
 }
 
 // Whether the CRC of a frame fits, whose side information ends before a byte.
+#[tactic(auto, using(crate::proofs::Strings::fits_is))]
 pub fn fits(frame: &[u8], end: usize) -> bool
     ensures { result ≡ crc_fits frame.now end }
 {

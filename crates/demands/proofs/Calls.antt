@@ -1,9 +1,10 @@
 -- The calls that the demands speak of, with names for what goes in and what comes out.
+use Rattle.std.specs.Prelude.{Result, Ok, Err}
 use mathlib.Core.Bool.{Bool}
 use mathlib.Core.List.{List}
 use Prim.Native.Nat.{ℕ}
 use lib.IntN.{ℤ}
-use lib.ListN.{get_or}
+use lib.ListN.{get_or, replicate}
 use Rattle.frame.proofs.process_frame.Reads as process-frame
 use Rattle.frame.proofs.process_frame.Kinds as process-frame-kinds
 use Rattle.frame.proofs.read_slots.Reads as read-slots
@@ -31,17 +32,50 @@ use Rattle.reservoir.proofs.emptied.Kinds as emptied-kinds
 use Rattle.huffman.proofs.lookup.Reads as lookup
 use Rattle.huffman.proofs.lookup.Kinds as lookup-kinds
 use Rattle.standard.specs.Bits.{between}
-use Rattle.standard.specs.Slots.{lacking_slot}
+use Rattle.standard.specs.Told.{Verdict}
+use Rattle.standard.specs.Refusals.{why_of}
+use Rattle.standard.specs.Header.{no_header}
+use Rattle.standard.specs.SideInfo.{no_side}
 use Rattle.standard.specs.declared.FrameHeader.{FrameHeader}
 use Rattle.standard.specs.declared.SideInfo.{SideInfo}
 use Rattle.standard.specs.declared.SlotRecord.{SlotRecord}
 use Rattle.standard.specs.declared.SlotAnswer.{SlotAnswer}
+use Rattle.standard.specs.declared.SlotAnswer.TheVariants.{Lacking}
 use Rattle.standard.specs.declared.Reservoir.{Reservoir}
+use Rattle.standard.specs.declared.Frame.{Frame}
+use Rattle.standard.specs.declared.FrameRefusal.{FrameRefusal}
+use Rattle.standard.specs.declared.FrameRefusal.TheVariants.{Unread, OutOfReach}
+use Rattle.standard.specs.declared.Refusal.{Refusal}
 use Rattle.demands.proofs.Call.{Call}
 
 -- what the n-th of the slots' answers says; a frame has its slots first, and any other is said to be lacking
 abbrev pub slot_said : List SlotAnswer → ℕ → SlotAnswer
-slot_said slots n = get_or slots n lacking_slot
+slot_said slots n = get_or slots n Lacking
+
+-- ---- what a frame's answer says: whether it was read, and if not, why
+abbrev pub verdict_in : Result Frame FrameRefusal → Verdict
+verdict_in (Ok f) = Ok tt
+verdict_in (Err e) = Err (why_of e)
+
+-- its header and its side information, blank ones where nothing is told
+abbrev pub header_in : Result Frame FrameRefusal → FrameHeader
+header_in (Ok f) = f.head.header
+header_in (Err (OutOfReach h)) = h.header
+header_in (Err (Unread r)) = no_header
+
+abbrev pub info_in : Result Frame FrameRefusal → SideInfo
+info_in (Ok f) = f.head.info
+info_in (Err (OutOfReach h)) = h.info
+info_in (Err (Unread r)) = no_side
+
+-- and its slots: a frame that is refused lacks all four; and so with the slots from given main data
+abbrev pub slots_in : Result Frame FrameRefusal → List SlotAnswer
+slots_in (Ok f) = f.slots
+slots_in (Err e) = replicate 4 Lacking
+
+abbrev pub slots_of_call : Result (List SlotAnswer) Refusal → List SlotAnswer
+slots_of_call (Ok l) = l
+slots_of_call (Err r) = replicate 4 Lacking
 
 -- ---- process_frame(frame, bytes, reservoir, numbers)
 abbrev pub FrameStep : Type 0
@@ -55,13 +89,16 @@ module _ (c : FrameStep) where
   bytes = c.args.1.0.now
 
   abbrev pub reservoir : Reservoir
-  reservoir = c.args.1.1.0
+  reservoir = c.args.1.1.0.now
 
   abbrev pub numbers : List ℤ
   numbers = c.args.1.1.1.0.now
 
   abbrev pub bytes_after : List ℕ
   bytes_after = c.exit.1.0.now
+
+  abbrev pub reservoir_left : Reservoir
+  reservoir_left = c.exit.1.1.0.now
 
   abbrev pub numbers_after : List ℤ
   numbers_after = c.exit.1.1.1.0.now
@@ -112,7 +149,10 @@ module _ (c : TurnCall) where
   turn_bytes = c.args.0.now
 
   abbrev pub turn_reservoir : Reservoir
-  turn_reservoir = c.args.1.0
+  turn_reservoir = c.args.1.0.now
+
+  abbrev pub turn_reservoir_left : Reservoir
+  turn_reservoir_left = c.exit.1.0.now
 
   abbrev pub turn_bytes_after : List ℕ
   turn_bytes_after = c.exit.0.now

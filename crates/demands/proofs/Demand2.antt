@@ -7,9 +7,9 @@
 -- count are shut out by frames given by their bytes (Worked).
 use mathlib.Core.Path.{◌≡◌}
 use lib.ListN.{length}
-use Rattle.standard.specs.Refusals.{told_header, Answers}
+use Rattle.standard.specs.Refusals.{Answers}
 use Rattle.standard.specs.Header.{header_of}
-use Rattle.standard.specs.SideInfo.{side_of, no_side}
+use Rattle.standard.specs.SideInfo.{side_of}
 use Rattle.standard.specs.Slots.{SlotsRead, read_slots}
 use Rattle.standard.specs.Reservoir.{emptied}
 use Rattle.standard.specs.Frame.{FrameRead, frame_call}
@@ -26,14 +26,14 @@ use Rattle.front_end.proofs.front_end_emptied.Kinds as front-end-emptied-kinds
 use Rattle.front_end.proofs.front_end_sizes.Reads as front-end-sizes
 use Rattle.front_end.proofs.front_end_sizes.Kinds as front-end-sizes-kinds
 use Rattle.demands.proofs.Call.{Call}
-use Rattle.demands.proofs.Calls.{HeaderCall, header_frame, SideInfoCall, side_header, side_frame, SlotsCall, slots_header, slots_info, main_data, slots_numbers, slots_numbers_after, FrameStep, frame, bytes, reservoir, numbers, bytes_after, numbers_after, EmptiedCall, ReorderCall, reorder_header, reorder_record, reorder_numbers, reorder_numbers_after}
+use Rattle.demands.proofs.Calls.{HeaderCall, header_frame, SideInfoCall, side_header, side_frame, SlotsCall, slots_header, slots_info, main_data, slots_numbers, slots_numbers_after, FrameStep, frame, bytes, reservoir, reservoir_left, numbers, bytes_after, numbers_after, EmptiedCall, ReorderCall, reorder_header, reorder_record, reorder_numbers, reorder_numbers_after}
 
 -- 11172-3, 2.4.1.3 and 2.4.2.3; 13818-3, 2.4.2.3: the header of a frame's bytes; refusals 2 to 9 and 15
-pub header_is : (c : HeaderCall) → told_header c.answer ≡ header_of (header_frame c)
+pub header_is : (c : HeaderCall) → c.answer ≡ header_of (header_frame c)
 header_is c = c.promised
 
 -- 11172-3, 2.4.1.7 and 2.4.2.7; 13818-3, 2.4.1.7: the side information after a header; refusals 14, 2, 10 to 12
-pub side_info_is : (c : SideInfoCall) → Answers no_side c.answer.verdict c.answer.info (side_of (side_header c) (side_frame c))
+pub side_info_is : (c : SideInfoCall) → c.answer ≡ side_of (side_header c) (side_frame c)
 side_info_is c = c.promised
 
 -- 11172-3, 2.4.1.7, 2.4.2.7 and 2.4.3.4; 13818-3, 2.4.3.2: the slots in given main data, and their numbers; refusals 1, 14, 20 to 24
@@ -43,8 +43,8 @@ slots-are c = c.promised
 
 -- 11172-3, 2.4.1.1 to 2.4.1.7, and 2.4.2.7 (main_data_begin): a frame from bytes and reservoir; refusals 1 to 13 and 15
 pub frame_is : (c : FrameStep)
-    → FrameRead (bytes c) (reservoir c) (numbers c) (frame_call (frame c) (bytes c) (reservoir c).length (length (numbers c))) c.answer (bytes_after c)
-    (numbers_after c)
+    → FrameRead (bytes c) (reservoir c) (numbers c) (frame_call (frame c) (bytes c) (reservoir c).length (length (numbers c))) c.answer (reservoir_left c)
+    (bytes_after c) (numbers_after c)
 frame_is c = c.promised
 
 -- docs/RULES.md, Reservoir: the call for a gap on the card

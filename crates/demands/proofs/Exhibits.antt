@@ -1,6 +1,7 @@
 -- No theorem of the demands has a premise that cannot be met: for each, calls that meet it. They are frame F of docs/RULES.md and its neighbours, with
 -- 4,096 bytes and 2,304 numbers lent, and calls that are lent nothing. (Where a theorem says that something cannot be, as answer 25, its premise is
 -- that very thing.)
+use Rattle.std.specs.Prelude.{Result, Some, Ok, Err}
 use mathlib.Core.Path.{◌≡◌, refl, sym, ap, ◌∙◌}
 use mathlib.Core.Bool.{Bool, true, false}
 use mathlib.Core.List.{List, [], ◌∷◌, ◌++◌}
@@ -11,9 +12,8 @@ use lib.Dec.{ltb}
 use lib.IntN.{ℤ, pos}
 use lib.ListN.{length, get_or, take, replicate, set, length-replicate}
 use Rattle.standard.specs.Sizes.{per_slot, per_frame, reservoir_bytes}
-use Rattle.standard.specs.Told.{pick, Told, refused, told, told_or, verdict_of}
+use Rattle.standard.specs.Told.{pick, told_or, verdict_of}
 use Rattle.standard.specs.ToldLaws.{passed}
-use Rattle.standard.proofs.RefusalsLaws.{answers_told}
 use Rattle.standard.specs.RowsLaws.{every, every-at}
 use Rattle.standard.specs.Written.{Bytes}
 use Rattle.standard.specs.Codes.{word_of, entry, starts, published, codes, table1, pair, low_bits}
@@ -25,13 +25,13 @@ use Rattle.standard.specs.Record.{shape_by, shape_of, absent, record_of, is_reco
 use Rattle.standard.proofs.RecordBits.{record_known}
 use Rattle.standard.specs.SideInfo.{is_record_under, is_side}
 use Rattle.standard.proofs.SideLaws.{slot_record}
-use Rattle.standard.specs.Slots.{Outcome, slots_of, read_slots, slots_told, numbers_from, records}
+use Rattle.standard.specs.Slots.{Outcome, slots_of, slot_told, said_of, read_slots, slots_answer, slots_told, numbers_from, records}
 use Rattle.standard.proofs.SlotsLaws.{read-call}
 use Rattle.standard.proofs.SlotsLaws as slots_laws
 use Rattle.standard.proofs.ReservoirLaws.{few_lent}
 use Rattle.standard.proofs.ReorderLaws as reorder-laws
 use Rattle.standard.specs.Reservoir.{turn_verdict, emptied as nothing, bytes_after}
-use Rattle.standard.specs.Frame.{Step, frame_call, frame_of, no_step}
+use Rattle.standard.specs.Frame.{Step, no_step, step_verdict, step_header, step_info, step_slots, step_kept, frame_answer, frame_call, frame_of}
 use Rattle.standard.proofs.FrameLaws.{call_fits}
 use Rattle.standard.proofs.StepLaws.{way}
 use Rattle.standard.proofs.Worked.{frame_f, long, reaching_back, up_from, step, slots_by}
@@ -41,19 +41,18 @@ use Rattle.standard.specs.declared.SlotRecord.{SlotRecord}
 use Rattle.standard.specs.declared.BlockType.TheVariants.{Short}
 use Rattle.standard.specs.declared.SampleRate.TheVariants.{Hz44100}
 use Rattle.standard.specs.declared.Reservoir.{Reservoir}
-use Rattle.standard.specs.declared.Verdict.{Verdict}
-use Rattle.standard.specs.declared.Verdict.TheVariants.{Accepted, Refused}
 use Rattle.standard.specs.declared.Refusal.TheVariants.{UnfitMemory, FreeBitrate, ShortReservoir, MissingBits, PairOverrun}
-use Rattle.huffman.specs.Slot.{slot_numbers, told_count, count_of, numbers_after}
-use Rattle.huffman.specs.declared.HuffmanAnswer.TheVariants.{Uncounted}
-use Rattle.demands.proofs.Calls.{HuffmanCall, slot_said, FrameStep, frame, bytes, reservoir, numbers, SlotsCall, slots_header, slots_info, main_data, slots_numbers, TurnCall, ReorderCall, reorder_header, reorder_record, reorder_numbers, SideInfoCall, IsHeaderCall, IsSideInfoCall, IsRecordCall, MainSizeCall, EmptiedCall, LookupCall, lookup_table, lookup_bits}
-use Rattle.demands.proofs.Made.{lend, lend_mut, answer_of, answers_of, four_of, frame_step, slots_call, side_info_call, reorder_call, turn_call}
+use Rattle.huffman.specs.Slot.{slot_numbers, count_of, numbers_after}
+use Rattle.demands.proofs.Calls.{HuffmanCall, slot_said, verdict_in, header_in, info_in, slots_in, slots_of_call, FrameStep, frame, bytes, reservoir, numbers, SlotsCall, slots_header, slots_info, main_data, slots_numbers, TurnCall, ReorderCall, reorder_header, reorder_record, reorder_numbers, SideInfoCall, IsHeaderCall, IsSideInfoCall, IsRecordCall, MainSizeCall, EmptiedCall, LookupCall, lookup_table, lookup_bits}
+use Rattle.demands.proofs.Made.{lend, lend_mut, frame_step, slots_call, side_info_call, reorder_call, turn_call}
 use Rattle.front_end.specs.Calls.{per_rows, call_told, rows_after, frame_step as stepIn, frame_told, slots_step, reorder_step}
 use Rattle.demands.proofs.Exported.{ExportedFrame, ExportedSlots, ExportedReorder}
+use Rattle.demands.proofs.Stored.{verdict_by}
 use Rattle.demands.proofs.Bounds.{InTurn}
 use Rattle.demands.proofs.Worked.{Lent, way_known}
 use Rattle.standard.specs.declared.SlotAnswer.{SlotAnswer}
-use Rattle.standard.specs.declared.SlotOutcome.TheVariants.{Read, NotRead, Lacking}
+use Rattle.standard.specs.declared.SlotAnswer.TheVariants.{NotRead, Lacking}
+use Rattle.standard.specs.declared.Refusal.{Refusal}
 
 -- ---- memory that is lent
 abbrev pub memory : ℕ → List ℕ
@@ -75,14 +74,25 @@ numbers-enough = rw length-replicate (omega arith)
 pub comes_to : (s : List ℕ) (x : ℕ) → frame_call s (memory x) 0 (length zeros) ≡ frame_of s []
 comes_to s x = call_fits s (memory x) 0 (length zeros) (bytes-enough x) (omega arith) numbers-enough
 
--- that call, with the verdict that is computed
-unfoldable pub a_frame : (s : List ℕ) (x : ℕ) (v : Verdict) → v ≡ (frame_of s []).verdict → FrameStep
-a_frame s x v e = frame_step s (memory x) none zeros v (e ∙ ap (λ (p : Step). p.verdict) (sym (comes_to s x)))
+-- that call: what it answers is the frame's step
+unfoldable pub a_frame : (s : List ℕ) (x : ℕ) → FrameStep
+a_frame s x = frame_step s (memory x) none zeros
+
+module _ (s : List ℕ) (x : ℕ) where
+  answers : (a_frame s x).answer ≡ frame_answer (frame_of s [])
+  unfolding a_frame frame_step
+  answers = ap frame_answer (comes_to s x)
+
+  pub judged : verdict_in (a_frame s x).answer ≡ step_verdict (frame_of s [])
+  unfolding a_frame frame_step
+  judged = verdict_by (a_frame s x).promised ∙ ap step_verdict (comes_to s x)
+
+  told_of : slots_in (a_frame s x).answer ≡ slots_in (frame_answer (frame_of s []))
+  told_of = ap slots_in answers
 
 -- F itself, with either filling of the memory past the reservoir's bytes
 unfoldable pub f : ℕ → FrameStep
-unfolding step
-f x = a_frame frame_f x Accepted refl
+f x = a_frame frame_f x
 
 bytes_of : (s : List ℕ) → every (λ (x : ℕ). ltb x 256) s ≡ true → Bytes s
 bytes_of s e i = ltb-true _ _ (every-at (λ (x : ℕ). ltb x 256) 0 s refl e i)
@@ -92,50 +102,49 @@ unfolding every
 f-bytes = bytes_of frame_f refl
 
 -- ---- Demand 1
-pub frame_refused : (c : FrameStep) × (c.answer.verdict ≡ Refused FreeBitrate)
-unfolding a_frame frame_step step
-frame_refused = (a_frame (set frame_f 2 0x04) 0 (Refused FreeBitrate) refl, refl)
+pub frame_refused : (c : FrameStep) × (verdict_in c.answer ≡ Err FreeBitrate)
+unfolding step
+frame_refused = (a_frame (set frame_f 2 0x04) 0, judged (set frame_f 2 0x04) 0)
 
-pub frame-short : (c : FrameStep) × (c.answer.verdict ≡ Refused ShortReservoir)
-unfolding a_frame frame_step step
-frame-short = (a_frame (reaching_back 1) 0 (Refused ShortReservoir) refl, refl)
+pub frame-short : (c : FrameStep) × (verdict_in c.answer ≡ Err ShortReservoir)
+unfolding step
+frame-short = (a_frame (reaching_back 1) 0, judged (reaching_back 1) 0)
 
 -- a frame with a refused slot, which also lacks the slots of a second channel and granule
-pub slot_refused : (c : FrameStep) × ((slot_said c.answer.slots 0).outcome ≡ NotRead PairOverrun) × ((slot_said c.answer.slots 1).outcome ≡ Lacking)
-unfolding a_frame frame_step step answers_of answer_of
+pub slot_refused : (c : FrameStep) × (slot_said (slots_in c.answer) 0 ≡ NotRead PairOverrun) × (slot_said (slots_in c.answer) 1 ≡ Lacking)
+unfolding step frame_answer slots_told slot_told
 slot_refused = (
-  a_frame (long 2) 0 Accepted refl,
-  ap (λ (p : Step). (slot_said (four_of p.slots) 0).outcome) (comes_to (long 2) 0),
-  ap (λ (p : Step). (slot_said (four_of p.slots) 1).outcome) (comes_to (long 2) 0),
+  a_frame (long 2) 0,
+  ap (λ (l : List SlotAnswer). slot_said l 0) (told_of (long 2) 0),
+  ap (λ (l : List SlotAnswer). slot_said l 1) (told_of (long 2) 0),
 )
 
 -- ---- slots of F from given main data
 abbrev pub header : FrameHeader
-header = (frame_of frame_f []).header
+header = step_header (frame_of frame_f [])
 
 abbrev pub info : SideInfo
-info = (frame_of frame_f []).info
+info = step_info (frame_of frame_f [])
 
 known : (is_header header ≡ true) × (is_side header info ≡ true)
 unfolding step
 known = way_known f-bytes (way frame_f []) refl
 
-pub read_is : (main : List ℕ) → read_slots header info main (length zeros) ≡ told (slots_of header info main)
+pub read_is : (main : List ℕ) → read_slots header info main (length zeros) ≡ Ok (slots_of header info main)
 read_is main = read-call header info main (length zeros) numbers-enough known.0 known.1
 
 unfoldable pub from_main : List ℕ → SlotsCall
-unfolding verdict_of
-from_main main = slots_call header info main zeros Accepted (sym (ap verdict_of (read_is main)))
+from_main main = slots_call header info main zeros
 
-from_said : (main : List ℕ) (n : ℕ) → slot_said (from_main main).answer.slots n ≡ slot_said (four_of (slots_of header info main)) n
-unfolding from_main slots_call told_or
-from_said main n = ap (λ (t : Told (List Outcome)). slot_said (four_of (told_or [] t)) n) (read_is main)
+from_said : (main : List ℕ) (n : ℕ) → slot_said (slots_of_call (from_main main).answer) n ≡ slot_said (slots_told (slots_of header info main)) n
+unfolding from_main slots_call slots_answer
+from_said main n = ap (λ (t : Result (List Outcome) Refusal). slot_said (slots_of_call (slots_answer t)) n) (read_is main)
 
 -- with the premises of Demand 3 on header, side information and numbers: from nothing the slot is missing, from a byte it is not
 pub slot_missing : (c : SlotsCall) × (per_frame ≤ length (slots_numbers c)) × (is_header (slots_header c) ≡ true) × (is_side (slots_header c) (slots_info c) ≡ true)
-    × (0 < length (records (slots_header c) (slots_info c))) × ((slot_said c.answer.slots 0).outcome ≡ NotRead MissingBits)
-    × ((slot_said c.answer.slots 1).outcome ≡ Lacking)
-unfolding from_main slots_call step slots_by answers_of answer_of
+    × (0 < length (records (slots_header c) (slots_info c))) × (slot_said (slots_of_call c.answer) 0 ≡ NotRead MissingBits)
+    × (slot_said (slots_of_call c.answer) 1 ≡ Lacking)
+unfolding from_main slots_call step slots_by slots_told slot_told
 slot_missing =
     let one : length (records header info) ≡ 1 = refl in (
       from_main [],
@@ -143,15 +152,15 @@ slot_missing =
       known.0,
       known.1,
       omega (arith, one),
-      ap (λ (t : SlotAnswer). t.outcome) (from_said [] 0),
-      ap (λ (t : SlotAnswer). t.outcome) (from_said [] 1),
+      from_said [] 0,
+      from_said [] 1,
     )
 
 pub early_and_late : (early late : SlotsCall) × (slots_header late ≡ slots_header early) × (slots_info late ≡ slots_info early)
     × (main_data late ≡ main_data early ++ 0x00 ∷ [])
     × (slots_numbers late ≡ slots_numbers early) × (per_frame ≤ length (slots_numbers early)) × (is_header (slots_header early) ≡ true)
-    × (is_side (slots_header early) (slots_info early) ≡ true) × ((slot_said early.answer.slots 0).outcome ≡ Read 6)
-unfolding from_main slots_call step slots_by answers_of answer_of
+    × (is_side (slots_header early) (slots_info early) ≡ true) × (said_of (slot_said (slots_of_call early.answer) 0) ≡ Some (Ok 6))
+unfolding from_main slots_call step slots_by slots_told slot_told said_of
 early_and_late = (
   from_main (0x7A ∷ []),
   from_main (0x7A ∷ 0x00 ∷ []),
@@ -162,34 +171,34 @@ early_and_late = (
   numbers-enough,
   known.0,
   known.1,
-  ap (λ (t : SlotAnswer). t.outcome) (from_said (0x7A ∷ []) 0),
+  ap said_of (from_said (0x7A ∷ []) 0),
 )
 
 -- ---- calls that are lent nothing
-pub slots-refused : (c : SlotsCall) × (c.answer.verdict ≡ Refused UnfitMemory)
-unfolding slots_call verdict_of
-slots-refused = (slots_call header info [] [] (Refused UnfitMemory) (sym (ap verdict_of (slots_laws.few_numbers header info [] 0 (omega arith)))), refl)
+pub slots-refused : (c : SlotsCall) × (c.answer ≡ Err UnfitMemory)
+unfolding slots_call slots_answer
+slots-refused = (slots_call header info [] [], ap slots_answer (slots_laws.few_numbers header info [] 0 (omega arith)))
 
-pub reorder_refused : (c : ReorderCall) × (c.answer ≡ Refused UnfitMemory)
+pub reorder_refused : (c : ReorderCall) × (c.answer ≡ Err UnfitMemory)
 unfolding reorder_call verdict_of
-reorder_refused = (reorder_call header absent [] (Refused UnfitMemory) (sym (ap verdict_of (reorder-laws.few_numbers header absent [] (omega arith)))), refl)
+reorder_refused = (reorder_call header absent [], ap verdict_of (reorder-laws.few_numbers header absent [] (omega arith)))
 
-pub huffman_refused : (c : HuffmanCall) × (told_count c.answer ≡ refused UnfitMemory)
+pub huffman_refused : (c : HuffmanCall) × (c.answer ≡ Err UnfitMemory)
 unfolding slot_numbers pick count_of numbers_after
 huffman_refused = (
   record {
     lifetimes = ([], ([], tt));
     args = (header.rate, (absent, (lend [], (0, (0, (lend_mut [], tt))))));
-    answer = Uncounted UnfitMemory;
+    answer = Err UnfitMemory;
     exit = (header.rate, (absent, (lend [], (0, (0, (lend_mut [], tt))))));
     promised = (refl, refl);
   },
   refl,
 )
 
-pub turn_refused : (c : TurnCall) × (c.answer.verdict ≡ Refused UnfitMemory)
+pub turn_refused : (c : TurnCall) × (c.answer ≡ Err UnfitMemory)
 unfolding turn_call turn_verdict
-turn_refused = (turn_call [] none 0 [] (Refused UnfitMemory) (sym (ap turn_verdict (few_lent [] 0 0 [] (omega arith)))), refl)
+turn_refused = (turn_call [] none 0 [], ap turn_verdict (few_lent [] 0 0 [] (omega arith)))
 
 -- ---- OnlyValid: F's call twice, over memory that differs past the reservoir's bytes
 pub two_memories : (frame (f 1) ≡ frame (f 0)) × (reservoir (f 1) ≡ reservoir (f 0)) × (numbers (f 1) ≡ numbers (f 0))
@@ -223,14 +232,14 @@ record_checked =
 
 -- ---- Worked and Bounds: memory is lent to any frame as the table asks; F's bytes are bytes, it is accepted, its header and side information are
 -- handed on, and its slot is counted
-pub lent : (s : List ℕ) (x : ℕ) (v : Verdict) (e : v ≡ (frame_of s []).verdict) → Lent (a_frame s x v e) s []
+pub lent : (s : List ℕ) (x : ℕ) → Lent (a_frame s x) s []
 unfolding a_frame frame_step
-lent s x v e = record { frame_is = refl; old_is = refl; bytes-enough = bytes-enough x; stated-fits = omega arith; numbers-enough = numbers-enough }
+lent s x = record { frame_is = refl; old_is = refl; bytes-enough = bytes-enough x; stated-fits = omega arith; numbers-enough = numbers-enough }
 
-pub handed_on : (main : List ℕ) → (slots_header (from_main main) ≡ (f 0).answer.header) × (slots_info (from_main main) ≡ (f 0).answer.info)
+pub handed_on : (main : List ℕ) → (slots_header (from_main main) ≡ header_in (f 0).answer) × (slots_info (from_main main) ≡ info_in (f 0).answer)
     × (main_data (from_main main) ≡ main)
-unfolding from_main slots_call f a_frame frame_step
-handed_on main = (ap (λ (p : Step). p.header) (sym (comes_to frame_f 0)), ap (λ (p : Step). p.info) (sym (comes_to frame_f 0)), refl)
+unfolding from_main slots_call f frame_answer step
+handed_on main = (sym (ap header_in (answers frame_f 0)), sym (ap info_in (answers frame_f 0)), refl)
 
 -- a header at 44.1 kHz, under it the records of a short block and of a mixed one, and numbers that count up from 1
 abbrev bytes44 : List ℕ
@@ -266,8 +275,7 @@ pub short_reordered : (mixed : Bool)
     × (reorder_numbers c ≡ up_from 1 48 ++ replicate 528 (pos 0))
 unfolding reorder_call header44 short_record verdict_of up_from
 short_reordered mixed = (
-  reorder_call header44 (short_record mixed) counting Accepted
-      (sym (ap verdict_of (reorder-laws.in_order header44 (short_record mixed) counting enough header44-known (short_known mixed)))),
+  reorder_call header44 (short_record mixed) counting,
   header44-known,
   refl,
   short_known mixed,
@@ -283,13 +291,13 @@ short_reordered mixed = (
     shape true = refl
     shape false = refl
 
-pub f-counted : Bytes (frame (f 0)) × ((f 0).answer.verdict ≡ Accepted) × ((slot_said (f 0).answer.slots 0).outcome ≡ Read 6)
-unfolding f a_frame frame_step step answers_of answer_of
-f-counted = (f-bytes, refl, ap (λ (p : Step). (slot_said (four_of p.slots) 0).outcome) (comes_to frame_f 0))
+pub f-counted : Bytes (frame (f 0)) × (verdict_in (f 0).answer ≡ Ok tt) × (said_of (slot_said (slots_in (f 0).answer) 0) ≡ Some (Ok 6))
+unfolding f a_frame frame_step step frame_answer slots_told slot_told said_of
+f-counted = (f-bytes, judged frame_f 0, ap (λ (l : List SlotAnswer). said_of (slot_said l 0)) (told_of frame_f 0))
 
-pub side_accepted : (c : SideInfoCall) × (c.answer.verdict ≡ Accepted)
+pub side_accepted : (c : SideInfoCall) × (c.answer ≡ Ok info)
 unfolding step
-side_accepted = (side_info_call header frame_f (record { verdict = Accepted; info = info }) (answers_told refl), refl)
+side_accepted = (side_info_call header frame_f (Ok info) refl, refl)
 
 pub main_sized : (c : MainSizeCall) × (is_header c.args.0 ≡ true)
 main_sized = (record { lifetimes = tt; args = (header, tt); answer = main_size header; exit = (header, tt); promised = refl }, known.0)
@@ -324,15 +332,15 @@ exported s lent stated d rows =
       exit = (
         lend s,
         (
-          lend_mut (bytes_after lent p.kept),
-          (stated, (lend_mut (numbers_from 0 p.slots d), (lend_mut (rows_after p.verdict p.info.slots (slots_told p.slots) rows), tt))),
+          lend_mut (bytes_after lent (step_kept p)),
+          (stated, (lend_mut (numbers_from 0 (step_slots p) d), (lend_mut (rows_after (step_verdict p) (step_info p).slots (slots_told (step_slots p)) rows), tt))),
         ),
       );
       promised = record { answer = refl; bytes = refl; numbers-are = refl; rows_are = refl };
     }
 
 pub exported-refused : (exported [] [] 0 [] []).answer.refusal ≡ 1
-unfolding exported stepIn pick frame_told no_step
+unfolding exported stepIn pick frame_told
 exported-refused = refl
 
 pub exported-short : (exported (reaching_back 1) (memory 0) 0 zeros (replicate per_rows 0)).answer.refusal ≡ 13
@@ -345,7 +353,7 @@ exported-slots = (
   record {
     lifetimes = ([], ([], ([], ([], tt))));
     args = (lend [], (lend [], (lend_mut [], (lend_mut [], tt))));
-    answer = call_told (Refused UnfitMemory);
+    answer = call_told (Err UnfitMemory);
     exit = (lend [], (lend [], (lend_mut [], (lend_mut [], tt))));
     promised = record { answer = refl; numbers-are = refl; rows_are = refl };
   },
@@ -358,7 +366,7 @@ exported-reorder = (
   record {
     lifetimes = ([], ([], tt));
     args = (lend [], (0, (lend_mut [], tt)));
-    answer = call_told (Refused UnfitMemory);
+    answer = call_told (Err UnfitMemory);
     exit = (lend [], (0, (lend_mut [], tt)));
     promised = record { answer = refl; numbers-are = refl };
   },

@@ -3,15 +3,13 @@
 -- that record for one of the frame's slots.
 -- Proved over the promises of is_header, is_side_info, is_record, read_frame_header and read_side_info, from HeaderBytes and SideBytes of
 -- `standard`, where the bytes are written down. Bytes are numbers below 256.
+use Rattle.std.specs.Prelude.{Ok}
 use mathlib.Core.Path.{◌≡◌, refl, sym, ap, ◌∙◌}
 use mathlib.Core.Bool.{true, false}
 use mathlib.Core.Logic.{◌↔◌}
 use mathlib.Core.List.{List}
 use Prim.Native.Nat.{ℕ, ◌*◌, ◌<◌}
 use lib.ListN.{get_or}
-use Rattle.standard.specs.Told.{Told, refused, told, told_or, verdict_of}
-use Rattle.standard.specs.Refusals.{told_header, Answers}
-use Rattle.standard.proofs.RefusalsLaws.{unlike, answers_told}
 use Rattle.standard.specs.Written.{Bytes}
 use Rattle.standard.specs.Header.{header_of, is_header, is_mpeg1, is_slow, granules, channel_count}
 use Rattle.standard.proofs.HeaderBytes.{header_read, header-known}
@@ -23,52 +21,33 @@ use Rattle.standard.specs.declared.FrameHeader.{FrameHeader}
 use Rattle.standard.specs.declared.SampleRate.TheVariants.{Hz8000}
 use Rattle.standard.specs.declared.BlockType.TheVariants.{Long}
 use Rattle.standard.specs.declared.SideInfo.{SideInfo}
-use Rattle.standard.specs.declared.HeaderAnswer.TheVariants.{Header}
-use Rattle.standard.specs.declared.Verdict.{Verdict}
-use Rattle.standard.specs.declared.Verdict.TheVariants.{Accepted}
 use Rattle.demands.proofs.Calls.{IsHeaderCall, IsSideInfoCall, IsRecordCall, HeaderCall, SideInfoCall}
 use Rattle.demands.proofs.Made.{header_call, side_info_call}
-
--- what an accepted answer was told
-pub accepted_is : {A : Type 0} {blank a : A} {v : Verdict} {t : Told A} → Answers blank v a t → v ≡ Accepted → t ≡ told a
-unfolding verdict_of told_or
-accepted_is {A} {blank} {a} {v} {t} f e = go t (sym e ∙ f.verdict) f.value
-  where
-    go : (t : Told A) → Accepted ≡ verdict_of t → a ≡ told_or blank t → t ≡ told a
-    go (refused k) g n = unlike (sym g)
-    go (told x) g n = ap told (sym n)
 
 -- ---- a call of read_frame_header on bytes that answers this header
 pub record ReadsHeader (s : List ℕ) (h : FrameHeader) : Type 0 where
   pub call : HeaderCall
   pub on : call.args.0.now ≡ s
-  pub answers : call.answer ≡ Header h
+  pub answers : call.answer ≡ Ok h
 
-reads_header : {s : List ℕ} {h : FrameHeader} → header_of s ≡ told h → ReadsHeader s h
-reads_header {s} {h} e = record { call = header_call s (Header h) (sym e); on = refl; answers = refl }
+reads_header : {s : List ℕ} {h : FrameHeader} → header_of s ≡ Ok h → ReadsHeader s h
+reads_header {s} {h} e = record { call = header_call s (Ok h) (sym e); on = refl; answers = refl }
 
-header-told : {s : List ℕ} {h : FrameHeader} → ReadsHeader s h → header_of s ≡ told h
-header-told r = ap header_of (sym r.on) ∙ sym r.call.promised ∙ ap told_header r.answers
+header-told : {s : List ℕ} {h : FrameHeader} → ReadsHeader s h → header_of s ≡ Ok h
+header-told r = ap header_of (sym r.on) ∙ sym r.call.promised ∙ r.answers
 
 -- ---- and of read_side_info, under a header
 pub record ReadsSide (s : List ℕ) (h : FrameHeader) (i : SideInfo) : Type 0 where
   pub call : SideInfoCall
   pub under : call.args.0 ≡ h
   pub on : call.args.1.0.now ≡ s
-  pub accepts : call.answer.verdict ≡ Accepted
-  pub answers : call.answer.info ≡ i
+  pub answers : call.answer ≡ Ok i
 
-reads_side : {s : List ℕ} {h : FrameHeader} {i : SideInfo} → side_of h s ≡ told i → ReadsSide s h i
-reads_side {s} {h} {i} e = record {
-  call = side_info_call h s (record { verdict = Accepted; info = i }) (answers_told e);
-  under = refl;
-  on = refl;
-  accepts = refl;
-  answers = refl;
-}
+reads_side : {s : List ℕ} {h : FrameHeader} {i : SideInfo} → side_of h s ≡ Ok i → ReadsSide s h i
+reads_side {s} {h} {i} e = record { call = side_info_call h s (Ok i) (sym e); under = refl; on = refl; answers = refl }
 
-pub side_told : {s : List ℕ} {h : FrameHeader} {i : SideInfo} → ReadsSide s h i → side_of h s ≡ told i
-side_told r = sym (λ j. side_of (r.under j) (r.on j)) ∙ accepted_is r.call.promised r.accepts ∙ ap told r.answers
+pub side_told : {s : List ℕ} {h : FrameHeader} {i : SideInfo} → ReadsSide s h i → side_of h s ≡ Ok i
+side_told r = sym (λ j. side_of (r.under j) (r.on j)) ∙ sym r.call.promised ∙ r.answers
 
 -- ---- the three statements
 pub header-accepted : (c : IsHeaderCall) → (c.answer ≡ true) ↔ ((s : List ℕ) × Bytes s × ReadsHeader s c.args.0)

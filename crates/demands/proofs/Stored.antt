@@ -1,5 +1,6 @@
 -- What an answer says of a slot, beside what stands in its 576 numbers: both by the slot's own outcome. Over any outcomes, so that it serves the
 -- call on main data and the frame step alike; then what these two calls' promises make of it.
+use Rattle.std.specs.Prelude.{Result, Ok, Err}
 use mathlib.Core.Path.{◌≡◌, refl, sym, ap, subst, ◌∙◌}
 use mathlib.Core.Bool.{Bool, true, false, ◌&&◌}
 use mathlib.Core.List.{List, [], ◌++◌}
@@ -10,12 +11,12 @@ use lib.IntN.{ℤ}
 use lib.ListN.{length, get_or, take, drop}
 use lib.Seq.{drop-drop}
 use Rattle.standard.specs.Sizes.{per_slot, per_frame}
-use Rattle.standard.specs.Told.{Told, told_or}
+use Rattle.standard.specs.Told.{told_or}
 use Rattle.standard.specs.ToldLaws.{both_of, clash}
-use Rattle.standard.specs.Slots.{Outcome, stopped, holds, slot_told, lacking_slot, slots_told, numbers_from, read_slots, part_of, own_of, outcome_of}
+use Rattle.standard.specs.Slots.{Outcome, stopped, holds, slot_told, slots_told, numbers_from, read_slots, slots_answer, part_of, own_of, outcome_of}
 use Rattle.standard.proofs.SlotsLaws.{told_at, lacking_at, own_numbers, past-slots, few_numbers, made-up_call, read-call}
 use Rattle.standard.proofs.SlotBounds.{read-room}
-use Rattle.standard.specs.Frame.{Step, no_step, short_step, full_step, frame_call, main_of}
+use Rattle.standard.specs.Frame.{Step, no_step, short_step, full_step, step_verdict, step_header, step_info, step_slots, frame_call, frame_answer, FrameRead, main_of}
 use Rattle.standard.proofs.StepLaws.{Way, refused_way, short_way, full_way, Entire, call_way, call_room}
 use Rattle.standard.specs.Header.{is_header}
 use Rattle.standard.specs.SideInfo.{is_side}
@@ -23,18 +24,20 @@ use Rattle.standard.specs.declared.FrameHeader.{FrameHeader}
 use Rattle.standard.specs.declared.SideInfo.{SideInfo}
 use Rattle.standard.specs.declared.SlotAnswer.{SlotAnswer}
 use Rattle.standard.specs.declared.Refusal.TheVariants.{MissingBits}
-use Rattle.demands.proofs.Calls.{slot_said, FrameStep, frame, bytes, reservoir, numbers, numbers_after, SlotsCall, slots_header, slots_info, main_data, slots_numbers, slots_numbers_after}
-use Rattle.standard.specs.declared.SlotOutcome.{SlotOutcome}
-use Rattle.standard.specs.declared.SlotOutcome.TheVariants.{NotRead, Lacking}
+use Rattle.standard.specs.declared.Reservoir.{Reservoir}
+use Rattle.standard.specs.declared.Frame.{Frame}
+use Rattle.standard.specs.declared.FrameRefusal.{FrameRefusal}
+use Rattle.demands.proofs.Calls.{slot_said, verdict_in, header_in, info_in, slots_in, slots_of_call, FrameStep, frame, bytes, reservoir, numbers, numbers_after, SlotsCall, slots_header, slots_info, main_data, slots_numbers, slots_numbers_after}
+use Rattle.standard.specs.declared.SlotAnswer.TheVariants.{NotRead, Lacking}
 use Rattle.standard.specs.declared.Refusal.{Refusal}
 
 -- a slot that is said to be refused left what stood there
-refused_own : (o : Outcome) (k : Refusal) (d : List ℤ) → (slot_told o).outcome ≡ NotRead k → own_of o d ≡ d
+refused_own : (o : Outcome) (k : Refusal) (d : List ℤ) → slot_told o ≡ NotRead k → own_of o d ≡ d
 unfolding own_of slot_told
 refused_own (stopped r) k d e = refl
 refused_own (holds long short vs) k d e = clash cc
 
-not_lacking : (o : Outcome) → (slot_told o).outcome ≡ Lacking → ⊥
+not_lacking : (o : Outcome) → slot_told o ≡ Lacking → ⊥
 unfolding slot_told
 not_lacking (stopped r) e = clash cc
 not_lacking (holds long short vs) e = clash cc
@@ -54,7 +57,7 @@ module _ (os : List Outcome) {answers : List SlotAnswer} {d left : List ℤ} (a 
   stored_is n h = ap (part_of (per_slot * n)) a.stored ∙ own_numbers os n d h a.room
 
   -- a slot that the frame lacks, and numbers past the last slot
-  pub lacking_said : (n : ℕ) → length os ≤ n → slot_said answers n ≡ lacking_slot
+  pub lacking_said : (n : ℕ) → length os ≤ n → slot_said answers n ≡ Lacking
   lacking_said n h = lacking_at answers os a.says n h
 
   pub lacking_stays : (n : ℕ) → length os ≤ n → part_of (per_slot * n) left ≡ part_of (per_slot * n) d
@@ -69,23 +72,22 @@ module _ (os : List Outcome) {answers : List SlotAnswer} {d left : List ℤ} (a 
       ∙ ap (λ (m : ℕ). take per_slot (drop m d)) e
 
   -- what is said decides: lacking, or by the slot's own outcome
-  pub by_said : (n : ℕ) {x : SlotOutcome} → (slot_said answers n).outcome ≡ x → (x ≡ Lacking → ⊥) → (n < length os)
-      × ((slot_told (get_or os n (stopped MissingBits))).outcome ≡ x)
-  by_said n e f =
+  pub by_said : (n : ℕ) → (slot_said answers n ≡ Lacking → ⊥) → (n < length os) × (slot_told (get_or os n (stopped MissingBits)) ≡ slot_said answers n)
+  by_said n f =
       elim (dec_lt n (length os)) [
-        | yes l ↦ (l, sym (ap (λ (t : SlotAnswer). t.outcome) (said_is n l)) ∙ e)
-        | no l ↦ absurd (f (sym e ∙ ap (λ (t : SlotAnswer). t.outcome) (lacking_said n (omega arith))))
+        | yes l ↦ (l, sym (said_is n l))
+        | no l ↦ absurd (f (lacking_said n (omega arith)))
       ]
 
-  pub refused_stays : (n : ℕ) (k : Refusal) → (slot_said answers n).outcome ≡ NotRead k → part_of (per_slot * n) left ≡ part_of (per_slot * n) d
+  pub refused_stays : (n : ℕ) (k : Refusal) → slot_said answers n ≡ NotRead k → part_of (per_slot * n) left ≡ part_of (per_slot * n) d
   refused_stays n k e =
-      let b = by_said n e (λ z. clash cc) in
-      stored_is n b.0 ∙ refused_own (get_or os n (stopped MissingBits)) k (part_of (per_slot * n) d) b.1
+      let b = by_said n (λ z. clash cc) in
+      stored_is n b.0 ∙ refused_own (get_or os n (stopped MissingBits)) k (part_of (per_slot * n) d) (b.1 ∙ e)
 
-  pub said_lacking : (n : ℕ) → (slot_said answers n).outcome ≡ Lacking → part_of (per_slot * n) left ≡ part_of (per_slot * n) d
+  pub said_lacking : (n : ℕ) → slot_said answers n ≡ Lacking → part_of (per_slot * n) left ≡ part_of (per_slot * n) d
   said_lacking n e =
       elim (dec_lt n (length os)) [
-        | yes l ↦ absurd (not_lacking (get_or os n (stopped MissingBits)) (sym (ap (λ (t : SlotAnswer). t.outcome) (said_is n l)) ∙ e))
+        | yes l ↦ absurd (not_lacking (get_or os n (stopped MissingBits)) (sym (said_is n l) ∙ e))
         | no l ↦ lacking_stays n (omega arith)
       ]
 
@@ -93,9 +95,14 @@ module _ (os : List Outcome) {answers : List SlotAnswer} {d left : List ℤ} (a 
 abbrev pub outcomes_of : SlotsCall → List Outcome
 outcomes_of c = told_or [] (read_slots (slots_header c) (slots_info c) (main_data c) (length (slots_numbers c)))
 
-pub slots-answered : (c : SlotsCall) → Answered (outcomes_of c) c.answer.slots (slots_numbers c) (slots_numbers_after c)
+slots_by : (t : Result (List Outcome) Refusal) → slots_of_call (slots_answer t) ≡ slots_told (told_or [] t)
+unfolding slots_answer slots_told told_or
+slots_by (Err r) = refl
+slots_by (Ok os) = refl
+
+pub slots-answered : (c : SlotsCall) → Answered (outcomes_of c) (slots_of_call c.answer) (slots_numbers c) (slots_numbers_after c)
 slots-answered c = record {
-  says = c.promised.slots;
+  says = ap slots_of_call c.promised.answer ∙ slots_by (read_slots (slots_header c) (slots_info c) (main_data c) (length (slots_numbers c)));
   stored = c.promised.numbers;
   room = read-room (slots_header c) (slots_info c) (main_data c) (length (slots_numbers c));
 }
@@ -110,9 +117,9 @@ read-each P h i s d n none some =
       | no l ↦ at (few_numbers h i s d (omega arith)) none
     ]
   where
-    at : {t : Told (List Outcome)} → read_slots h i s d ≡ t → P (get_or (told_or [] t) n (stopped MissingBits))
+    at : {t : Result (List Outcome) Refusal} → read_slots h i s d ≡ t → P (get_or (told_or [] t) n (stopped MissingBits))
         → P (get_or (told_or [] (read_slots h i s d)) n (stopped MissingBits))
-    at e x = subst (λ (t : Told (List Outcome)). P (get_or (told_or [] t) n (stopped MissingBits))) (sym e) x
+    at e x = subst (λ (t : Result (List Outcome) Refusal). P (get_or (told_or [] t) n (stopped MissingBits))) (sym e) x
 
     by : (b : Bool) → is_header h && is_side h i ≡ b → per_frame ≤ d → P (get_or (told_or [] (read_slots h i s d)) n (stopped MissingBits))
     by true e l = let k = both_of (is_header h) (is_side h i) e in at (read-call h i s d l k.0 k.1) (some k.1)
@@ -130,22 +137,60 @@ step_of c = frame_call (frame c) (bytes c) (reservoir c).length (length (numbers
 pub way_of : (c : FrameStep) → Way (frame c) (take (reservoir c).length (bytes c)) (step_of c)
 way_of c = call_way (frame c) (bytes c) (reservoir c).length (length (numbers c))
 
-pub frame-answered : (c : FrameStep) → Answered (step_of c).slots c.answer.slots (numbers c) (numbers_after c)
+-- what a frame's answer says, by the step that it is promised to be
+module _ {lent left : List ℕ} {old new : Reservoir} {d nums : List ℤ} {p : Step} {r : Result Frame FrameRefusal} (f : FrameRead lent old d p r new left nums) where
+  pub verdict_by : verdict_in r ≡ step_verdict p
+  unfolding frame_answer
+  verdict_by = ap verdict_in f.answer ∙ by p
+    where
+      by : (p : Step) → verdict_in (frame_answer p) ≡ step_verdict p
+      by (no_step k) = refl
+      by (short_step h i bs) = refl
+      by (full_step h i bs) = refl
+
+  pub header_by : header_in r ≡ step_header p
+  unfolding frame_answer
+  header_by = ap header_in f.answer ∙ by p
+    where
+      by : (p : Step) → header_in (frame_answer p) ≡ step_header p
+      by (no_step k) = refl
+      by (short_step h i bs) = refl
+      by (full_step h i bs) = refl
+
+  pub info_by : info_in r ≡ step_info p
+  unfolding frame_answer
+  info_by = ap info_in f.answer ∙ by p
+    where
+      by : (p : Step) → info_in (frame_answer p) ≡ step_info p
+      by (no_step k) = refl
+      by (short_step h i bs) = refl
+      by (full_step h i bs) = refl
+
+  pub answers_by : slots_in r ≡ slots_told (step_slots p)
+  unfolding frame_answer slots_told
+  answers_by = ap slots_in f.answer ∙ by p
+    where
+      by : (p : Step) → slots_in (frame_answer p) ≡ slots_told (step_slots p)
+      by (no_step k) = refl
+      by (short_step h i bs) = refl
+      by (full_step h i bs) = refl
+
+pub frame-answered : (c : FrameStep) → Answered (step_slots (step_of c)) (slots_in c.answer) (numbers c) (numbers_after c)
 frame-answered c = record {
-  says = c.promised.slots;
+  says = answers_by c.promised;
   stored = c.promised.numbers-are;
   room = call_room (frame c) (bytes c) (reservoir c).length (length (numbers c));
 }
 
 way_each : (P : Outcome → Type 0) {s old : List ℕ} {p : Step} → Way s old p → (n : ℕ) → P (stopped MissingBits)
-    → ((h : FrameHeader) (i : SideInfo) (bs : List ℕ) → Entire s h i → P (outcome_of h i bs n)) → P (get_or p.slots n (stopped MissingBits))
-unfolding no_step short_step full_step outcome_of
-way_each P (refused_way k m e) n none some = subst (λ (p : Step). P (get_or p.slots n (stopped MissingBits))) (sym e) none
-way_each P (short_way h i w l e) n none some = subst (λ (p : Step). P (get_or p.slots n (stopped MissingBits))) (sym e) none
+    → ((h : FrameHeader) (i : SideInfo) (bs : List ℕ) → Entire s h i → P (outcome_of h i bs n)) → P (get_or (step_slots p) n (stopped MissingBits))
+unfolding outcome_of
+way_each P (refused_way k m e) n none some = subst (λ (p : Step). P (get_or (step_slots p) n (stopped MissingBits))) (sym e) none
+way_each P (short_way h i w l e) n none some = subst (λ (p : Step). P (get_or (step_slots p) n (stopped MissingBits))) (sym e) none
 way_each P {s} {old} (full_way h i w l e) n none some =
-    subst (λ (p : Step). P (get_or p.slots n (stopped MissingBits))) (sym e) (some h i (drop (length old - i.main_data_begin) old ++ main_of h s) w)
+    subst (λ (p : Step). P (get_or (step_slots p) n (stopped MissingBits))) (sym e) (some h i (drop (length old - i.main_data_begin) old ++ main_of h s) w)
 
 pub each_of_frame : (P : Outcome → Type 0) → P (stopped MissingBits) → (c : FrameStep)
     → ((n : ℕ) (h : FrameHeader) (i : SideInfo) (bs : List ℕ) → Entire (frame c) h i → P (outcome_of h i bs n)) → (n : ℕ)
-    → P (get_or (step_of c).slots n (stopped MissingBits))
+    → P (get_or (step_slots (step_of c)) n (stopped MissingBits))
 each_of_frame P none c some n = way_each P (way_of c) n none (some n)

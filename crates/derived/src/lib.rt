@@ -5,16 +5,18 @@
 ghost use Rattle.std.specs.Prelude.{◌≡◌, ◌*◌, ◌/◌};
 ghost use Rattle.standard.specs.Record.{shape_by, is_mixed};
 ghost use Rattle.standard.specs.Factors.{may_share};
-ghost use Rattle.standard.specs.Refusals.{number_of, offset_of};
+ghost use Rattle.standard.specs.Refusals.{number_of, offset_of, why_of};
 ghost use Rattle.standard.specs.Header.{«bps», «hz», is_mpeg1, is_two, is_slow, is_intensity};
 ghost use Rattle.standard.specs.Header.{slot_bytes, header_size, data_size, frame_length, side_bytes, side_size, main_size, «granules», channel_count};
 
 use bits::one;
 use standard::{
-    BitRate, BlockType, Channels, FrameHeader, MpegVersion, Refusal, SampleRate, Shape,
+    BitRate, BlockType, Channels, FrameHeader, FrameRefusal, MpegVersion, Refusal, SampleRate,
+    Shape,
 };
 
 // ---- what the fields say
+// Quantities in a match: `standard`, whose types these are, holds no code, so that no other crate can write a conversion for them.
 
 // Bits for a second.
 pub fn bps(b: BitRate) -> u32
@@ -63,113 +65,71 @@ pub fn hz(f: SampleRate) -> u32
 pub fn is_mpeg1(v: MpegVersion) -> bool
     ensures { result ≡ is_mpeg1 v }
 {
-    match v {
-        MpegVersion::Mpeg1 => true,
-        MpegVersion::Mpeg2 => false,
-        MpegVersion::Mpeg25 => false,
-    }
+    matches!(v, MpegVersion::Mpeg1)
 }
 
 // Whether there are two channels.
 pub fn is_two(c: Channels) -> bool
     ensures { result ≡ is_two c }
 {
-    match c {
-        Channels::Mono => false,
-        Channels::DualMono => true,
-        Channels::Stereo => true,
-        Channels::JointStereo {
-            intensity: _,
-            mid_side: _,
-        } => true,
-    }
+    !matches!(c, Channels::Mono)
 }
 
 // Whether intensity stereo is on.
 pub fn is_intensity(c: Channels) -> bool
     ensures { result ≡ is_intensity c }
 {
-    match c {
-        Channels::Mono => false,
-        Channels::DualMono => false,
-        Channels::Stereo => false,
+    matches!(
+        c,
         Channels::JointStereo {
-            intensity,
-            mid_side: _,
-        } => intensity,
-    }
+            intensity: true,
+            mid_side: _
+        }
+    )
 }
 
 // Which bands a slot's factors and numbers are of.
 pub fn shape_of(b: BlockType, mixed: bool) -> Shape
     ensures { result ≡ shape_by b mixed }
 {
-    match b {
-        BlockType::Long => Shape::AllLong,
-        BlockType::Start => Shape::AllLong,
-        BlockType::Short => short_shape(mixed),
-        BlockType::End => Shape::AllLong,
+    match (b, mixed) {
+        (BlockType::Long, _) => Shape::AllLong,
+        (BlockType::Start, _) => Shape::AllLong,
+        (BlockType::Short, false) => Shape::AllShort,
+        (BlockType::Short, true) => Shape::LongThenShort,
+        (BlockType::End, _) => Shape::AllLong,
     }
-}
-
-fn short_shape(mixed: bool) -> Shape
-    ensures { result ≡ shape_by BlockType.Short mixed }
-{
-    if mixed {
-        return Shape::LongThenShort;
-    }
-    Shape::AllShort
 }
 
 // Whether long bands come before short ones.
 pub fn is_mixed(shape: Shape) -> bool
     ensures { result ≡ is_mixed shape }
 {
-    match shape {
-        Shape::AllLong => false,
-        Shape::AllShort => false,
-        Shape::LongThenShort => true,
-    }
+    matches!(shape, Shape::LongThenShort)
 }
 
 // Whether factors may be granule 0's: those of long bands alone (scfsi).
 pub fn may_share(shape: Shape) -> bool
     ensures { result ≡ may_share shape }
 {
-    match shape {
-        Shape::AllLong => true,
-        Shape::AllShort => false,
-        Shape::LongThenShort => false,
-    }
+    matches!(shape, Shape::AllLong)
 }
 
 // Whether the rate is 8 kHz.
 pub fn is_slow(f: SampleRate) -> bool
     ensures { result ≡ is_slow f }
 {
-    match f {
-        SampleRate::Hz8000 => true,
-        SampleRate::Hz11025 => false,
-        SampleRate::Hz12000 => false,
-        SampleRate::Hz16000 => false,
-        SampleRate::Hz22050 => false,
-        SampleRate::Hz24000 => false,
-        SampleRate::Hz32000 => false,
-        SampleRate::Hz44100 => false,
-        SampleRate::Hz48000 => false,
-    }
+    matches!(f, SampleRate::Hz8000)
 }
 
 // ---- the sizes that follow from a header, one that no bytes read to included
 
 // The bytes of the header with the CRC: 4 or 6.
+#[tactic(auto, unfolding(standard::specs::Header::header_size))]
 pub fn header_size(h: FrameHeader) -> usize
     ensures { result ≡ header_size h }
 {
-    if h.crc {
-        return 6;
-    }
-    4
+    if h.crc { 6 } else { 4 }
 }
 
 fn slot_bytes(v: MpegVersion) -> u32
@@ -177,8 +137,7 @@ fn slot_bytes(v: MpegVersion) -> u32
 {
     match v {
         MpegVersion::Mpeg1 => 144,
-        MpegVersion::Mpeg2 => 72,
-        MpegVersion::Mpeg25 => 72,
+        MpegVersion::Mpeg2 | MpegVersion::Mpeg25 => 72,
     }
 }
 
@@ -190,16 +149,15 @@ fn unpadded(v: MpegVersion, b: BitRate, f: SampleRate) -> u32
 }
 
 // What follows the header. A frame has at least 12 bytes, more than any header takes.
+#[tactic(auto, using(standard::proofs::HeaderLaws::any_size), unfolding(standard::specs::Header::data_size, standard::specs::Header::header_size))]
 fn data_size(h: FrameHeader) -> usize
     ensures { result ≡ data_size h }
 {
-    let version = h.version;
-    let bitrate = h.bitrate;
-    let rate = h.rate;
-    unpadded(version, bitrate, rate) as usize + one(h.padding) - header_size(h)
+    unpadded(h.version, h.bitrate, h.rate) as usize + one(h.padding) - header_size(h)
 }
 
 // The bytes of a whole frame.
+#[tactic(auto, unfolding(standard::specs::Header::frame_length))]
 pub fn frame_length(h: FrameHeader) -> usize
     ensures { result ≡ frame_length h }
 {
@@ -209,62 +167,48 @@ pub fn frame_length(h: FrameHeader) -> usize
 fn side_bytes(mpeg1: bool, two: bool) -> usize
     ensures { result ≡ side_bytes mpeg1 two }
 {
-    if mpeg1 {
-        if two {
-            return 32;
-        }
-        return 17;
+    match (mpeg1, two) {
+        (true, true) => 32,
+        (true, false) => 17,
+        (false, true) => 17,
+        (false, false) => 9,
     }
-    if two {
-        return 17;
-    }
-    9
 }
 
 // The bytes of the side information: 9, 17 or 32.
+#[tactic(auto, unfolding(standard::specs::Header::side_size))]
 pub fn side_size(h: FrameHeader) -> usize
     ensures { result ≡ side_size h }
 {
-    let version = h.version;
-    let channels = h.channels;
-    side_bytes(is_mpeg1(version), is_two(channels))
+    side_bytes(is_mpeg1(h.version), is_two(h.channels))
 }
 
 // The bytes after the side information: none where a header that no bytes read to has too little room for that.
+#[tactic(auto, unfolding(standard::specs::Header::main_size))]
 pub fn main_size(h: FrameHeader) -> usize
     ensures { result ≡ main_size h }
 {
-    let all = data_size(h);
-    let side = side_size(h);
-    if all < side {
-        return 0;
-    }
-    all - side
+    data_size(h).saturating_sub(side_size(h))
 }
 
 // The granules of a frame: two in MPEG-1, one otherwise.
+#[tactic(auto, unfolding(standard::specs::Header::granules))]
 pub fn granules(h: FrameHeader) -> usize
     ensures { result ≡ «granules» h }
 {
-    let version = h.version;
-    if is_mpeg1(version) {
-        return 2;
-    }
-    1
+    if is_mpeg1(h.version) { 2 } else { 1 }
 }
 
 // The channels of a frame: one or two.
+#[tactic(auto, unfolding(standard::specs::Header::channel_count))]
 pub fn channel_count(h: FrameHeader) -> usize
     ensures { result ≡ channel_count h }
 {
-    let channels = h.channels;
-    if is_two(channels) {
-        return 2;
-    }
-    1
+    if is_two(h.channels) { 2 } else { 1 }
 }
 
 // ---- what a refusal is called
+// A number only here, for text and exported rows.
 
 // The number of a refusal (docs/REFUSALS.md), for programs to print and for callers in other languages.
 pub fn number_of(why: Refusal) -> u8
@@ -302,5 +246,15 @@ pub fn offset_of(why: Refusal) -> usize
     match why {
         Refusal::AbsentBytes { offset } => offset as usize,
         _ => 0,
+    }
+}
+
+// Why a frame has no slots, in one word.
+pub fn why_of(e: FrameRefusal) -> Refusal
+    ensures { result ≡ why_of e }
+{
+    match e {
+        FrameRefusal::Unread(why) => why,
+        FrameRefusal::OutOfReach(_) => Refusal::ShortReservoir,
     }
 }

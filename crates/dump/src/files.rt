@@ -4,8 +4,7 @@
 ghost use Rattle.std.specs.Prelude.{◌<◌};
 ghost use Rattle.std.specs.Str.{IsUtf8};
 
-use crate::walk::{Walk, Words, flushed, run};
-use standard::FRAME_NUMBERS;
+use crate::walk::{Output, Words, walk_over};
 use std::fs::File;
 use std::io::Read;
 use std::rt::Files;
@@ -30,36 +29,20 @@ fn say_number(rt: &impl Print, word: &[u8], n: u64) {
     let _ = rt.print(n);
 }
 
-fn say_file(rt: &impl Print, name: [u8; 7], w: Walk) {
-    let _ = rt.write_all(&name);
-    say_number(rt, b" tries ", w.tries);
-    say_number(rt, b" sum ", w.sum);
-    let _ = rt.write_all(b"\n");
-}
-
 // One file, which is open; answers its tries.
 fn replay_file<R: Read>(rt: &impl Print, name: [u8; 7], reader: &mut R) -> u64 {
-    let mut out = [0u8; 65536];
-    let mut piece = [0u8; 65536];
-    let mut bytes = [0u8; 4096];
-    let mut numbers = [0i32; FRAME_NUMBERS];
-    let said = Words {
+    let words = Words {
         on: true,
         many: false,
-        sums: true,
     };
-    let w = run(
-        rt,
-        reader,
-        &mut out,
-        &mut piece,
-        &mut bytes,
-        &mut numbers,
-        said,
-    );
-    let last = flushed(rt, &out, w, said);
-    say_file(rt, name, last);
-    last.tries
+    let (tries, output) = walk_over(rt, reader, words, Output::Summed(0));
+    let _ = rt.write_all(&name);
+    say_number(rt, b" tries ", tries);
+    if let Output::Summed(sum) = output {
+        say_number(rt, b" sum ", sum);
+    }
+    let _ = rt.write_all(b"\n");
+    tries
 }
 
 // The file of a name, where there is one that can be read.
@@ -71,17 +54,17 @@ fn opened<F: Files>(rt: &F, name: [u8; 7]) -> Option<F::File>
 }
 
 pub(crate) fn replay(rt: &(impl Files + Print)) {
+    let mut files = 0u64;
     let mut tries = 0u64;
-    let mut n = 0usize;
-    while n < FILES {
+    for n in 0..FILES {
         let name = name_of(n);
         let Some(mut file) = opened(rt, name) else {
             break;
         };
+        files = files.wrapping_add(1);
         tries = tries.wrapping_add(replay_file(rt, name, &mut file));
-        n += 1;
     }
-    say_number(rt, b"files ", n as u64);
+    say_number(rt, b"files ", files);
     say_number(rt, b" tries ", tries);
     let _ = rt.write_all(b"\n");
 }

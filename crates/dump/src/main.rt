@@ -8,35 +8,32 @@ mod rows;
 mod walk;
 
 use crate::files::replay;
-use crate::walk::{flushed, is_word, read_words, run};
-use standard::FRAME_NUMBERS;
-use std::io::Read;
+use crate::walk::{Output, Words, walk_over};
 use std::rt::Env;
 
-fn dump<R: Read>(rt: &(impl Env + Print), reader: &mut R) {
-    let mut out = [0u8; 65536];
-    let mut piece = [0u8; 65536];
-    let mut bytes = [0u8; 4096];
-    let mut numbers = [0i32; FRAME_NUMBERS];
-    let said = read_words(rt);
-    let w = run(
-        rt,
-        reader,
-        &mut out,
-        &mut piece,
-        &mut bytes,
-        &mut numbers,
-        said,
-    );
-    flushed(rt, &out, w, said);
-    let _ = rt.write_all(b"end\n");
+fn is_word(rt: &impl Env, i: usize, word: &[u8]) -> bool {
+    let mut said = [0u8; 4096];
+    match rt.arg(i, &mut said) {
+        Ok(n) => &said[..n] == word,
+        Err(_) => false,
+    }
+}
+
+// Whether the first or the second argument is the word.
+fn is_told(rt: &impl Env, word: &[u8]) -> bool {
+    is_word(rt, 1, word) || is_word(rt, 2, word)
 }
 
 fn main(rt: HostRuntime) {
     if is_word(&rt, 1, b"replay") {
         replay(&rt);
-    } else {
-        let mut reader = rt.stdin();
-        dump(&rt, &mut reader);
+        return;
     }
+    let words = Words {
+        on: is_told(&rt, b"on"),
+        many: is_told(&rt, b"cards"),
+    };
+    let mut reader = rt.stdin();
+    walk_over(&rt, &mut reader, words, Output::Written);
+    let _ = rt.write_all(b"end\n");
 }

@@ -1,13 +1,12 @@
 // The walk over the input: from try to try of a card, and from card to card.
-use crate::rows::{put_answer, put_card, wide};
+use crate::rows::{put_answer, put_card};
 use fields::step;
-use frame::process_frame;
-use input::{Held, Input, blank, fill, taken, unread};
-use lent_bytes::least;
+use frame::Memory;
+use input::{Held, Input};
+use lines::Text;
 use reservoir::emptied;
-use standard::{Reservoir, Verdict};
+use standard::{FRAME_NUMBERS, Frame, FrameRefusal};
 use std::io::Read;
-use std::rt::Env;
 
 // The longest frame and more: what a try must find held, unless the input has ended.
 const AHEAD: usize = 8192;
@@ -15,293 +14,225 @@ const AHEAD: usize = 8192;
 // Where the text is written out: what one try prints finds room after it.
 const FULL: usize = 32768;
 
-const NO_END: usize = 0xffff_ffff_ffff_ffff;
-
 // The largest prime below 2 ^ 32.
 const PRIME: u64 = 4_294_967_291;
 
 // More turns than any input takes: nothing says that an input ends, so the turns are counted.
 const TURNS: u64 = u64::MAX;
 
-// What the program was told. With `sums` the text is not written but summed up.
+// What the program was told: to go on after a refused frame, and that the input is many cards.
 #[derive(Clone, Copy)]
 pub(crate) struct Words {
     pub(crate) on: bool,
     pub(crate) many: bool,
-    pub(crate) sums: bool,
 }
 
-// Where the walk is: what is held of the input and whether more may come; the bytes that the present card still has, and whether
-// they are passed over; the place in it; the reservoir; the end of the text that is not written out yet, and the sum of the text
-// before it; the next card's number; and how many tries there were.
+// What becomes of the text: it is written out, or summed up.
 #[derive(Clone, Copy)]
-pub(crate) struct Walk {
+pub(crate) enum Output {
+    Written,
+    Summed(u64),
+}
+
+// The input as far as it is read, with lent bytes for a piece of it.
+#[derive(Drop)]
+struct Source<'a, R> {
+    reader: &'a mut R,
+    piece: &'a mut [u8],
     held: Held,
-    open: bool,
-    left: usize,
-    skip: bool,
-    place: u64,
-    reservoir: Reservoir,
-    at: usize,
-    pub(crate) sum: u64,
-    number: u64,
-    pub(crate) tries: u64,
-    done: bool,
+    input: Input,
 }
 
-fn same(a: &[u8], b: &[u8]) -> bool {
-    if a.len() != b.len() {
-        return false;
+impl<'a, R: Read> Source<'a, R> {
+    fn unread(&self) -> &[u8] {
+        self.held.unread(self.piece)
     }
-    let mut i = 0usize;
-    while i < a.len() {
-        if a[i] != b[i] {
-            return false;
+
+    // Reads on, where too little is ahead.
+    fn refill(&mut self, rt: &impl Print) {
+        if matches!(self.input, Input::Open) && self.unread().len() < AHEAD {
+            self.input = self.held.fill(&mut *self.reader, &mut *self.piece);
+            if matches!(self.input, Input::Failed) {
+                let _ = rt.write_all(b"unreadable\n");
+            }
         }
-        i += 1;
-    }
-    true
-}
-
-pub(crate) fn is_word(rt: &impl Env, i: usize, word: &[u8]) -> bool {
-    let mut said = [0u8; 4096];
-    match rt.arg(i, &mut said) {
-        Ok(n) => same(&said[..n], word),
-        Err(_) => false,
     }
 }
 
-pub(crate) fn read_words(rt: &impl Env) -> Words {
-    Words {
-        on: is_word(rt, 1, b"on") | is_word(rt, 2, b"on"),
-        many: is_word(rt, 1, b"cards") | is_word(rt, 2, b"cards"),
-        sums: false,
-    }
+// The present card: the bytes that it still has, the place in it, and whether the rest is passed over.
+#[derive(Clone, Copy)]
+struct Card {
+    left: usize,
+    place: u64,
+    passed: bool,
 }
 
-fn start() -> Walk {
-    Walk {
-        held: blank(),
-        open: true,
-        left: 0,
-        skip: false,
-        place: 0,
-        reservoir: emptied(),
-        at: 0,
-        sum: 0,
-        number: 0,
-        tries: 0,
-        done: false,
+// Before the first card.
+const NO_CARD: Card = Card {
+    left: 0,
+    place: 0,
+    passed: false,
+};
+
+// The text that is not written out yet, and what becomes of it.
+#[derive(Drop)]
+struct Page<'a> {
+    text: Text<'a>,
+    output: Output,
+}
+
+impl<'a> Page<'a> {
+    // All of the text written out, or summed up.
+    fn flush(&mut self, rt: &impl Print) {
+        let output = self.output;
+        let said = self.text.said();
+        match output {
+            Output::Written => {
+                let _ = rt.write_all(said);
+            }
+            Output::Summed(before) => self.output = Output::Summed(summed(before, said)),
+        }
+        self.text.at = 0;
     }
 }
 
 // A text's sum, a number of 32 bits, from the sum of what stood before it.
 fn summed(before: u64, text: &[u8]) -> u64 {
-    let mut sum = before;
-    let mut i = 0usize;
-    while i < text.len() {
-        sum = (sum % PRIME * 65_599 + wide(text[i]) as u64 + 1) % PRIME;
-        i += 1;
+    text.iter().fold(before, |sum, byte| {
+        (sum % PRIME * 65_599 + u64::from(*byte) + 1) % PRIME
+    })
+}
+
+// Where the walk is: the input, the present card, the text, the next card's number, and how many tries there were.
+#[derive(Drop)]
+struct Walk<'a, R> {
+    source: Source<'a, R>,
+    card: Card,
+    page: Page<'a>,
+    number: u64,
+    tries: u64,
+}
+
+impl<'a, R: Read> Walk<'a, R> {
+    // A card of some bytes begins, with an empty reservoir.
+    fn open(&mut self, memory: &mut Memory<'_>, left: usize) {
+        self.card = Card { left, ..NO_CARD };
+        memory.reservoir = emptied();
+        put_card(&mut self.page.text, self.number);
+        self.number = self.number.wrapping_add(1);
     }
-    sum
-}
 
-// All of the text written out, or summed up.
-pub(crate) fn flushed(rt: &impl Print, out: &[u8], w: Walk, said: Words) -> Walk {
-    let from = 0usize;
-    let end = least(w.at, out.len());
-    let mut next = w;
-    next.at = 0;
-    if said.sums {
-        next.sum = summed(w.sum, &out[from..end]);
-        return next;
-    }
-    let _ = rt.write_all(&out[from..end]);
-    next
-}
-
-fn finished(w: Walk) -> Walk {
-    let mut next = w;
-    next.done = true;
-    next
-}
-
-fn is_open(rt: &impl Print, input: Input) -> bool {
-    match input {
-        Input::Open => true,
-        Input::Ended => false,
-        Input::Failed => {
-            let _ = rt.write_all(b"unreadable\n");
-            false
+    // The next of many cards, after four bytes that say how long it is; or the only one, of which the input tells the end.
+    fn begin(&mut self, memory: &mut Memory<'_>, many: bool) -> bool {
+        if !many {
+            let first = self.number == 0;
+            if first {
+                self.open(memory, usize::MAX);
+            }
+            return first;
         }
+        let Some(size) = self.source.unread().first_chunk::<4>() else {
+            return false;
+        };
+        let left = u32::from_be_bytes(*size) as usize;
+        self.source.held = self.source.held.taken(4);
+        self.open(memory, left);
+        true
+    }
+
+    // n bytes further on the card.
+    fn go(&mut self, n: usize) {
+        self.source.held = self.source.held.taken(n);
+        self.card.left = self.card.left.saturating_sub(n);
+        self.card.place = self.card.place.wrapping_add(n as u64);
+    }
+
+    // The bytes that are held of the present card are passed over. Answers whether there was any.
+    fn pass(&mut self) -> bool {
+        let n = self.source.unread().len().min(self.card.left);
+        self.go(n);
+        0 < n
+    }
+
+    // One try of the frame step, if there are bytes to try it on. The rest of the card is passed over after a refusal, unless the walk is
+    // to go on.
+    fn attempt(&mut self, memory: &mut Memory<'_>, on: bool) -> bool {
+        let unread = self.source.unread();
+        let frame = &unread[..self.card.left.min(unread.len())];
+        if frame.is_empty() {
+            return false;
+        }
+        let answer = memory.read(frame);
+        let kept = memory.reservoir.length as u64;
+        let place = self.card.place;
+        put_answer(&mut self.page.text, place, &answer, kept, memory.numbers);
+        self.card.passed = answer.is_err() && !on;
+        self.tries = self.tries.wrapping_add(1);
+        self.go(step(&answer));
+        true
+    }
+
+    // Input and text are seen to; then a card begins, or bytes are passed over, or a frame is tried. Answers whether anything was left to do.
+    fn turn(&mut self, rt: &impl Print, memory: &mut Memory<'_>, words: Words) -> bool {
+        self.source.refill(rt);
+        if self.card.left == 0 {
+            return self.begin(memory, words.many);
+        }
+        if self.card.passed {
+            return self.pass();
+        }
+        if FULL < self.page.text.at {
+            self.page.flush(rt);
+            return true;
+        }
+        self.attempt(memory, words.on)
+    }
+
+    // Turn after turn, until nothing is left to do.
+    fn run(&mut self, rt: &impl Print, memory: &mut Memory<'_>, words: Words) {
+        for _ in 0..TURNS {
+            if !self.turn(rt, memory, words) {
+                break;
+            }
+        }
+        self.page.flush(rt);
     }
 }
 
-// Reads on, where too little is ahead.
-fn filled<R: Read>(rt: &impl Print, reader: &mut R, piece: &mut [u8], w: Walk) -> Walk {
-    let c = w.held;
-    if (unread(piece, c).len() < AHEAD) & w.open {
-        let f = fill(reader, piece, c);
-        let state = f.input;
-        let filled_card = f.held;
-        let mut next = w;
-        next.held = filled_card;
-        next.open = is_open(rt, state);
-        return next;
-    }
-    w
-}
-
-// A card of some bytes begins, with an empty reservoir.
-fn opened(out: &mut [u8], w: Walk, held: Held, left: usize) -> Walk {
-    Walk {
-        held,
-        open: w.open,
-        left,
-        skip: false,
-        place: 0,
+// Walks over an input; answers the number of tries and what became of the text.
+pub(crate) fn walk_over<R: Read>(
+    rt: &impl Print,
+    reader: &mut R,
+    words: Words,
+    output: Output,
+) -> (u64, Output) {
+    let mut out = [0u8; 65536];
+    let mut piece = [0u8; 65536];
+    let mut bytes = [0u8; 4096];
+    let mut numbers = [0i32; FRAME_NUMBERS];
+    let mut memory = Memory {
+        bytes: &mut bytes,
         reservoir: emptied(),
-        at: put_card(out, w.at, w.number),
-        sum: w.sum,
-        number: w.number.wrapping_add(1),
-        tries: w.tries,
-        done: false,
-    }
-}
-
-// The next of many cards, if there is one.
-fn next_card(out: &mut [u8], piece: &[u8], w: Walk) -> Walk {
-    let c = w.held;
-    let s = unread(piece, c);
-    if s.len() < 4 {
-        return finished(w);
-    }
-    let left = 16_777_216 * wide(s[0]) + 65_536 * wide(s[1]) + 256 * wide(s[2]) + wide(s[3]);
-    opened(out, w, taken(c, 4), left)
-}
-
-fn begin(out: &mut [u8], piece: &[u8], w: Walk, said: Words) -> Walk {
-    if said.many {
-        return next_card(out, piece, w);
-    }
-    if w.number == 0 {
-        let c = w.held;
-        return opened(out, w, c, NO_END);
-    }
-    finished(w)
-}
-
-// n bytes further on the card.
-fn gone(w: Walk, n: usize) -> Walk {
-    let c = w.held;
-    let left = w.left;
-    let mut next = w;
-    let further = taken(c, n);
-    next.held = further;
-    next.left = left - least(n, left);
-    next.place = w.place.wrapping_add(n as u64);
-    next
-}
-
-fn skipped(piece: &[u8], w: Walk) -> Walk {
-    let c = w.held;
-    let n = least(unread(piece, c).len(), w.left);
-    if n == 0 {
-        return finished(w);
-    }
-    gone(w, n)
-}
-
-fn is_accepted(v: Verdict) -> bool {
-    match v {
-        Verdict::Accepted => true,
-        Verdict::Refused(_) => false,
-    }
-}
-
-// After a try: the text's end and the reservoir are new, and the walk goes on or passes over the rest of the card.
-fn tried(w: Walk, at: usize, reservoir: Reservoir, further: usize, on: bool) -> Walk {
-    let mut next = gone(w, further);
-    next.at = at;
-    next.reservoir = reservoir;
-    next.skip = !on;
-    next.tries = w.tries.wrapping_add(1);
-    next
-}
-
-// One try of the frame step.
-fn attempt(
-    out: &mut [u8],
-    piece: &[u8],
-    bytes: &mut [u8],
-    numbers: &mut [i32],
-    w: Walk,
-    said: Words,
-) -> Walk {
-    let c = w.held;
-    let s = unread(piece, c);
-    let n = least(s.len(), w.left);
-    if n == 0 {
-        return finished(w);
-    }
-    let kept = w.reservoir;
-    let from = 0usize;
-    let a = process_frame(&s[from..n], bytes, kept, &mut *numbers);
-    let verdict = a.verdict;
-    let reservoir = a.reservoir;
-    let further = step(verdict, a.length);
-    let at = put_answer(out, w.at, w.place, a, numbers);
-    tried(w, at, reservoir, further, is_accepted(verdict) | said.on)
-}
-
-// Input and text are seen to; then a card begins, or bytes are passed over, or a frame is tried.
-fn turn<R: Read>(
-    rt: &impl Print,
-    reader: &mut R,
-    out: &mut [u8],
-    piece: &mut [u8],
-    bytes: &mut [u8],
-    numbers: &mut [i32],
-    w: Walk,
-    said: Words,
-) -> Walk {
-    let a = filled(rt, reader, &mut *piece, w);
-    if a.left == 0 {
-        return begin(out, piece, a, said);
-    }
-    if a.skip {
-        return skipped(piece, a);
-    }
-    if FULL < a.at {
-        return flushed(rt, out, a, said);
-    }
-    attempt(out, piece, bytes, numbers, a, said)
-}
-
-pub(crate) fn run<R: Read>(
-    rt: &impl Print,
-    reader: &mut R,
-    out: &mut [u8],
-    piece: &mut [u8],
-    bytes: &mut [u8],
-    numbers: &mut [i32],
-    said: Words,
-) -> Walk {
-    let mut w = start();
-    for _ in 0..TURNS {
-        if w.done {
-            return w;
-        }
-        w = turn(
-            rt,
+        numbers: &mut numbers,
+    };
+    let mut w = Walk {
+        source: Source {
             reader,
-            &mut *out,
-            &mut *piece,
-            &mut *bytes,
-            &mut *numbers,
-            w,
-            said,
-        );
-    }
-    w
+            piece: &mut piece,
+            held: Held::blank(),
+            input: Input::Open,
+        },
+        card: NO_CARD,
+        page: Page {
+            text: Text {
+                bytes: &mut out,
+                at: 0,
+            },
+            output,
+        },
+        number: 0,
+        tries: 0,
+    };
+    w.run(rt, &mut memory, words);
+    (w.tries, w.page.output)
 }

@@ -1,10 +1,8 @@
 -- The fields of a header, of side information and of a slot's record as numbers, in the order of the bits that they are read from.
-use Rattle.std.specs.Prelude.{Bool, true, false, List, [], ◌∷◌, ℕ, eqb, get_or, Float}
+use Rattle.std.specs.Prelude.{Bool, true, false, List, [], ◌∷◌, ℕ, get_or, Float, Option, Some, None, Result, Ok, Err}
 use Rattle.std.specs.Float.{nan}
-use Rattle.standard.specs.Told.{pick}
 use Rattle.standard.specs.Header.{bps, hz, is_intensity}
 use Rattle.standard.specs.Record.{gain_number}
-use Rattle.standard.specs.Refusals.{number_of}
 use Rattle.standard.specs.declared.MpegVersion.{MpegVersion}
 use Rattle.standard.specs.declared.MpegVersion.TheVariants.{Mpeg1, Mpeg2, Mpeg25}
 use Rattle.standard.specs.declared.Channels.{Channels}
@@ -16,9 +14,10 @@ use Rattle.standard.specs.declared.BlockType.TheVariants.{Long, Start, Short, En
 use Rattle.standard.specs.declared.FrameHeader.{FrameHeader}
 use Rattle.standard.specs.declared.SideInfo.{SideInfo}
 use Rattle.standard.specs.declared.SlotRecord.{SlotRecord}
-use Rattle.standard.specs.declared.Verdict.{Verdict}
-use Rattle.standard.specs.declared.Verdict.TheVariants.{Accepted, Refused}
-use Rattle.standard.specs.declared.Refusal.TheVariants.{ShortReservoir}
+use Rattle.standard.specs.declared.FrameHead.{FrameHead}
+use Rattle.standard.specs.declared.Frame.{Frame}
+use Rattle.standard.specs.declared.FrameRefusal.{FrameRefusal}
+use Rattle.standard.specs.declared.FrameRefusal.TheVariants.{Unread, OutOfReach}
 
 abbrev pub bit_of : Bool → ℕ
 bit_of true = 1
@@ -86,11 +85,16 @@ scale_values r =
     ∷ bit_of r.scalefac_scale ∷ bit_of r.preflag ∷ bit_of r.mixed_block_flag ∷ []
 
 -- ---- what a frame's answer tells, and where the next try begins
--- the fields are told of a frame that was read, and of one that only reaches too far back
-unfoldable pub is_told : Verdict → Bool
-is_told Accepted = true
-is_told (Refused why) = eqb (number_of why) (number_of ShortReservoir)
+-- header, side information and length are told of a frame that was read, and of one that only reaches too far back
+unfoldable pub head_told : Result Frame FrameRefusal → Option FrameHead
+head_told (Ok f) = Some f.head
+head_told (Err (OutOfReach h)) = Some h
+head_told (Err (Unread r)) = None
+
+unfoldable pub length_or_one : Option FrameHead → ℕ
+length_or_one (Some h) = h.length
+length_or_one None = 1
 
 -- after such a frame; otherwise one byte further
-unfoldable pub step_of : Verdict → ℕ → ℕ
-step_of v n = pick (is_told v) n 1
+unfoldable pub step_of : Result Frame FrameRefusal → ℕ
+step_of a = length_or_one (head_told a)

@@ -3,25 +3,16 @@
 #![tactic(auto)]
 
 ghost use Rattle.std.specs.Prelude.{◌≡◌};
-ghost use Rattle.fields.specs.Values.{bit_of, version_number, mode_number, is_mid_side, emphasis_number, block_number, header_values, side_values, record_values, scale_values, is_told, step_of};
+ghost use Rattle.fields.specs.Values.{version_number, mode_number, is_mid_side, emphasis_number, block_number, header_values, side_values, record_values, scale_values, head_told, step_of};
 
-use derived::{bps, hz, is_intensity, number_of};
+use derived::{bps, hz, is_intensity};
 use record_check::checks::gain_number;
 use standard::{
-    BlockType, Channels, Emphasis, FrameHeader, MpegVersion, Refusal, SideInfo, SlotRecord, Verdict,
+    BlockType, Channels, Emphasis, Frame, FrameHead, FrameHeader, FrameRefusal, MpegVersion,
+    SideInfo, SlotRecord,
 };
 
-fn bit_of(b: bool) -> u8
-    ensures { result ≡ bit_of b }
-{
-    if b { 1 } else { 0 }
-}
-
-fn wide(n: u8) -> u64
-    ensures { result ≡ n }
-{
-    n as u64
-}
+// Versions, modes, emphases and block types stay numbers here: they are what is printed and exported, by the standard's own codes.
 
 fn version_number(v: MpegVersion) -> u8
     ensures { result ≡ version_number v }
@@ -40,25 +31,14 @@ fn mode_number(c: Channels) -> u8
         Channels::Mono => 3,
         Channels::DualMono => 2,
         Channels::Stereo => 0,
-        Channels::JointStereo {
-            intensity: _,
-            mid_side: _,
-        } => 1,
+        Channels::JointStereo { .. } => 1,
     }
 }
 
 fn is_mid_side(c: Channels) -> bool
     ensures { result ≡ is_mid_side c }
 {
-    match c {
-        Channels::Mono => false,
-        Channels::DualMono => false,
-        Channels::Stereo => false,
-        Channels::JointStereo {
-            intensity: _,
-            mid_side,
-        } => mid_side,
-    }
+    matches!(c, Channels::JointStereo { mid_side: true, .. })
 }
 
 fn emphasis_number(e: Emphasis) -> u8
@@ -83,107 +63,107 @@ fn block_number(b: BlockType) -> u8
 }
 
 // A header's fields as numbers, in the order of its bits.
+#[tactic(auto, unfolding(crate::specs::Values::header_values))]
 pub fn header_values(h: FrameHeader) -> [u64; 11]
     ensures { result ≡ header_values h }
 {
-    let version = h.version;
-    let bitrate = h.bitrate;
-    let rate = h.rate;
-    let channels = h.channels;
-    let emphasis = h.emphasis;
     [
-        wide(version_number(version)),
-        wide(bit_of(h.crc)),
-        bps(bitrate) as u64,
-        hz(rate) as u64,
-        wide(bit_of(h.padding)),
-        wide(mode_number(channels)),
-        wide(bit_of(is_mid_side(channels))),
-        wide(bit_of(is_intensity(channels))),
-        wide(bit_of(h.copyright)),
-        wide(bit_of(h.original)),
-        wide(emphasis_number(emphasis)),
+        u64::from(version_number(h.version)),
+        u64::from(h.crc),
+        u64::from(bps(h.bitrate)),
+        u64::from(hz(h.rate)),
+        u64::from(h.padding),
+        u64::from(mode_number(h.channels)),
+        u64::from(is_mid_side(h.channels)),
+        u64::from(is_intensity(h.channels)),
+        u64::from(h.copyright),
+        u64::from(h.original),
+        u64::from(emphasis_number(h.emphasis)),
     ]
 }
 
 // Side information's own fields as numbers.
+#[tactic(auto, unfolding(crate::specs::Values::side_values))]
 pub fn side_values(i: SideInfo) -> [u64; 9]
     ensures { result ≡ side_values i }
 {
     let s = i.scfsi;
     [
-        i.main_data_begin as u64,
-        wide(bit_of(s[0])),
-        wide(bit_of(s[1])),
-        wide(bit_of(s[2])),
-        wide(bit_of(s[3])),
-        wide(bit_of(s[4])),
-        wide(bit_of(s[5])),
-        wide(bit_of(s[6])),
-        wide(bit_of(s[7])),
+        u64::from(i.main_data_begin),
+        u64::from(s[0]),
+        u64::from(s[1]),
+        u64::from(s[2]),
+        u64::from(s[3]),
+        u64::from(s[4]),
+        u64::from(s[5]),
+        u64::from(s[6]),
+        u64::from(s[7]),
     ]
 }
 
 // A record's fields as numbers, its gains as 0 to 7.
+#[tactic(auto, unfolding(crate::specs::Values::record_values))]
 pub fn record_values(r: SlotRecord) -> [u64; 17]
     ensures { result ≡ record_values r }
 {
-    let block = r.block_type;
     let g = r.subblock_gain;
     let t = r.table_select;
     [
-        r.part2_3_length as u64,
-        r.big_values as u64,
-        r.global_gain as u64,
-        r.scalefac_compress as u64,
-        wide(block_number(block)),
-        wide(bit_of(r.mixed_block_flag)),
-        wide(gain_number(g[0])),
-        wide(gain_number(g[1])),
-        wide(gain_number(g[2])),
-        wide(t[0]),
-        wide(t[1]),
-        wide(t[2]),
-        r.region0_count as u64,
-        r.region1_count as u64,
-        wide(bit_of(r.preflag)),
-        wide(bit_of(r.scalefac_scale)),
-        wide(bit_of(r.count1table_select)),
+        u64::from(r.part2_3_length),
+        u64::from(r.big_values),
+        u64::from(r.global_gain),
+        u64::from(r.scalefac_compress),
+        u64::from(block_number(r.block_type)),
+        u64::from(r.mixed_block_flag),
+        u64::from(gain_number(g[0])),
+        u64::from(gain_number(g[1])),
+        u64::from(gain_number(g[2])),
+        u64::from(t[0]),
+        u64::from(t[1]),
+        u64::from(t[2]),
+        u64::from(r.region0_count),
+        u64::from(r.region1_count),
+        u64::from(r.preflag),
+        u64::from(r.scalefac_scale),
+        u64::from(r.count1table_select),
     ]
 }
 
 // What a slot's numbers are scaled by (11172-3, 2.4.3.4.7.1): its block type, global_gain, the three subblock gains as 0 to 7, scalefac_scale, preflag
 // and mixed_block_flag, the last to be told.
+#[tactic(auto, unfolding(crate::specs::Values::scale_values))]
 pub fn scale_values(r: SlotRecord) -> [u8; 8]
     ensures { result ≡ scale_values r }
 {
-    let block = r.block_type;
     let g = r.subblock_gain;
     [
-        block_number(block),
+        block_number(r.block_type),
         r.global_gain,
         gain_number(g[0]),
         gain_number(g[1]),
         gain_number(g[2]),
-        bit_of(r.scalefac_scale),
-        bit_of(r.preflag),
-        bit_of(r.mixed_block_flag),
+        u8::from(r.scalefac_scale),
+        u8::from(r.preflag),
+        u8::from(r.mixed_block_flag),
     ]
 }
 
-// Whether a frame's answer tells its header and side information.
-pub fn is_told(v: Verdict) -> bool
-    ensures { result ≡ is_told v }
+// What a frame's answer tells of it: of one that was read, and of one that only reaches too far back.
+#[tactic(auto, unfolding(crate::specs::Values::head_told))]
+pub fn head_told(a: &Result<Frame, FrameRefusal>) -> Option<FrameHead>
+    ensures { result ≡ head_told a.now }
 {
-    match v {
-        Verdict::Accepted => true,
-        Verdict::Refused(why) => number_of(why) == number_of(Refusal::ShortReservoir),
+    match a {
+        Ok(f) => Some(f.head),
+        Err(FrameRefusal::OutOfReach(head)) => Some(*head),
+        Err(FrameRefusal::Unread(_)) => None,
     }
 }
 
 // How far the next try is from this one.
-pub fn step(v: Verdict, length: usize) -> usize
-    ensures { result ≡ step_of v length }
+#[tactic(auto, unfolding(crate::specs::Values::step_of, crate::specs::Values::length_or_one))]
+pub fn step(a: &Result<Frame, FrameRefusal>) -> usize
+    ensures { result ≡ step_of a.now }
 {
-    if is_told(v) { length } else { 1 }
+    head_told(a).map_or(1, |head| head.length)
 }

@@ -1,3 +1,4 @@
+pub mod Rest
 pub mod Sharing
 pub mod Slots
 pub mod Stages

@@ -1,5 +1,5 @@
 -- Which sharing bits are a slot's: those of its channel, in the granule after the first.
-use mathlib.Core.Path.{◌≡◌, sym, ap, ◌∙◌}
+use mathlib.Core.Path.{◌≡◌, refl, sym, ap, ◌∙◌}
 use mathlib.Core.Bool.{Bool, true, false, not, ◌||◌}
 use mathlib.Core.List.{List, [], ◌∷◌}
 use Prim.Native.Nat.{ℕ, zero, suc, ◌+◌, ◌-◌, ◌*◌, ◌≤◌, ◌<◌}
@@ -73,15 +73,15 @@ module _ (h : FrameHeader) (i : SideInfo) (n : ℕ) (r : SlotRecord) (c : ℕ) (
       ∙ sym (passed _ (test ∙ t))
 
 -- ---- whether any of four is set
-pub any_set : (l : List Bool) (k : ℕ) → get_or l k false ≡ true → any_of l ≡ true
+pub any_of_four : (l : List Bool) → length l ≡ 4 → ((get_or l 0 false || get_or l 1 false) || get_or l 2 false) || get_or l 3 false ≡ any_of l
 unfolding any_of
-any_set [] k e = never e
-any_set (x ∷ l) zero e = either_left (any_of l) e
-any_set (x ∷ l) (suc k) e = either_right x (any_set l k e)
-
-pub none_of_four : (l : List Bool) → length l ≡ 4 → get_or l 0 false ≡ false → get_or l 1 false ≡ false → get_or l 2 false ≡ false → get_or l 3 false ≡ false
-    → any_of l ≡ false
-unfolding any_of
-none_of_four l n a b c d =
-    ap any_of (sym (four_from l 0 (omega arith) ∙ take_all 4 l (omega arith)))
-    ∙ (λ j. a j || (b j || (c j || (d j || false))))
+any_of_four l n =
+    by (get_or l 0 false) (get_or l 1 false) (get_or l 2 false) (get_or l 3 false)
+    ∙ ap any_of (four_from l 0 (omega arith) ∙ take_all 4 l (omega arith))
+  where
+    by : (a b c d : Bool) → ((a || b) || c) || d ≡ a || (b || (c || (d || false)))
+    by true b c d = refl
+    by false true c d = refl
+    by false false true d = refl
+    by false false false true = refl
+    by false false false false = refl

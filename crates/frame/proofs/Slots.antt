@@ -1,4 +1,5 @@
 -- One slot by its parts: the factors, and the numbers from the bits after them.
+use Rattle.std.specs.Prelude.{Ok, Err}
 use mathlib.Core.Path.{◌≡◌, sym, ap, ◌∙◌}
 use mathlib.Core.Bool.{Bool, true, false, ◌&&◌}
 use mathlib.Core.List.{List}
@@ -7,7 +8,6 @@ use native.Mathlib.Omega.{arith}
 use lib.IntN.{ℤ}
 use lib.ListN.{length}
 use borrow.Author.Tests.{lt-ltb, le-ltb}
-use Rattle.standard.specs.Told.{told, refused}
 use Rattle.standard.specs.ToldLaws.{picked, passed}
 use Rattle.standard.specs.Bits.{bits, between}
 use Rattle.standard.specs.BitsLaws.{drop_bits}
@@ -29,7 +29,7 @@ use Rattle.standard.specs.declared.Refusal.{Refusal}
 use Rattle.standard.specs.declared.Refusal.TheVariants.{FactorOverrun, LostShare}
 use Rattle.frame.specs.Slot.{SlotRead}
 use Rattle.scale_factors.specs.Groups.{factors_at}
-use Rattle.standard.specs.declared.SlotOutcome.TheVariants.{Read}
+use Rattle.standard.specs.declared.SlotAnswer.TheVariants.{Read, NotRead}
 
 module _ (g : Setting) (r : SlotRecord) where
   abbrev plan : List Source
@@ -59,27 +59,27 @@ module _ (g : Setting) (r : SlotRecord) where
           (numbers_of word_of g.rate r ((drop_bits (plan_bits plan) s at r.part2_3_length ∙ ap (bits s (at + plan_bits plan)) k) j)))
 
 -- ---- the answers
-pub stopped_read : {o : Outcome} {d left : List ℤ} {a : SlotAnswer} {why : Refusal} → o ≡ stopped why → a ≡ slot_told (stopped why) → left ≡ d
+pub stopped_read : {o : Outcome} {d left : List ℤ} {a : SlotAnswer} {why : Refusal} → o ≡ stopped why → a ≡ NotRead why → left ≡ d
     → SlotRead o d a left
-unfolding numbers_after
+unfolding slot_told numbers_after
 stopped_read {d = d} e t l = record { answer = t ∙ sym (ap slot_told e); numbers = l ∙ sym (ap (λ (o : Outcome). numbers_after o 0 d) e) }
 
 -- what the numbers came to is what their reader answered
 module _ (mpeg1 : Bool) (k : Shape) (fs : List ℕ) (d left : List ℤ) (a : SlotAnswer) where
-  pub numbers-refused : (q : Numbers) (why : Refusal) → refused why ≡ count_of q → left ≡ slotLeft q d → a ≡ slot_told (stopped why)
+  pub numbers-refused : (q : Numbers) (why : Refusal) → Err why ≡ count_of q → left ≡ slotLeft q d → a ≡ NotRead why
       → SlotRead (with_factors mpeg1 k fs q) d a left
   unfolding count_of slotLeft with_factors
   numbers-refused (halted r) why e l t = stopped_read (ap stopped (sym (one-reason e))) t l
   numbers-refused (got vs b) why e l t = apart e
 
-  pub numbers-counted : (q : Numbers) (n : ℕ) → told n ≡ count_of q → left ≡ slotLeft q d
-      → a ≡ record { outcome = Read n; long = long_factors mpeg1 k fs; short = short_factors mpeg1 k fs } → SlotRead (with_factors mpeg1 k fs q) d a left
+  pub numbers-counted : (q : Numbers) (n : ℕ) → Ok n ≡ count_of q → left ≡ slotLeft q d
+      → a ≡ Read n (long_factors mpeg1 k fs) (short_factors mpeg1 k fs) → SlotRead (with_factors mpeg1 k fs q) d a left
   unfolding count_of slotLeft with_factors slot_told numbers_after
   numbers-counted (halted r) n e l t = apart (sym e)
   numbers-counted (got vs b) n e l t =
       let m : n ≡ length vs = cc in
       record {
-        answer = t ∙ (λ j. record { outcome = Read (m j); long = long_factors mpeg1 k fs; short = short_factors mpeg1 k fs });
+        answer = t ∙ (λ j. Read (m j) (long_factors mpeg1 k fs) (short_factors mpeg1 k fs));
         numbers = l;
       }
 

@@ -15,7 +15,7 @@ use Rattle.standard.specs.ToldLaws.{picked, passed}
 use Rattle.standard.specs.Header.{granules_in, channels_in, is_mpeg1, is_two, is_slow, granules, channel_count}
 use Rattle.standard.specs.Record.{absent}
 use Rattle.standard.specs.Numbers.{padded}
-use Rattle.standard.specs.Slots.{Outcome, alone, stopped, holds, is_stopped, long_of, setting_of, mate_of, slot_in, then_slots, slots_from, slots_of, slot_told, lacking_slot, slots_told, numbers_after, numbers_from, records}
+use Rattle.standard.specs.Slots.{Outcome, alone, stopped, holds, is_stopped, long_of, setting_of, mate_of, slot_in, then_slots, slots_from, slots_of, slot_told, slots_told, numbers_after, numbers_from, records}
 use Rattle.standard.specs.CopyLaws.{paste_whole}
 use Rattle.standard.specs.RowsLaws.{get_d_within}
 use Rattle.standard.specs.SideInfo.{is_side}
@@ -26,7 +26,9 @@ use Rattle.standard.specs.declared.Setting.{Setting}
 use Rattle.standard.specs.declared.SideInfo.{SideInfo}
 use Rattle.standard.specs.declared.SlotRecord.{SlotRecord}
 use Rattle.standard.specs.declared.SlotAnswer.{SlotAnswer}
-use Rattle.frame.specs.Slot.{SlotRead, said_refused, no_answer, mate_in, Mated}
+use Rattle.standard.specs.declared.SlotAnswer.TheVariants.{Lacking}
+use Rattle.std.specs.Prelude.{Option, is_none}
+use Rattle.frame.specs.Slot.{SlotRead, said_long, no_answer, mate_in, shared_of}
 
 -- ---- the lent numbers
 -- a slot's own part put back is the slot's step in all of them
@@ -55,33 +57,33 @@ map-append f (x ∷ l) m = ap (λ (t : List _). f x ∷ t) (map-append f l m)
 
 -- one more of four answers
 pub told_turn : (answers : List SlotAnswer) (done : List Outcome) (k : ℕ) (a : SlotAnswer) (o : Outcome) → length done ≡ k → k < 4
-    → answers ≡ map slot_told done ++ replicate (4 - k) lacking_slot → a ≡ slot_told o
-    → set answers k a ≡ map slot_told (done ++ (o ∷ [])) ++ replicate (4 - (k + 1)) lacking_slot
+    → answers ≡ map slot_told done ++ replicate (4 - k) Lacking → a ≡ slot_told o
+    → set answers k a ≡ map slot_told (done ++ (o ∷ [])) ++ replicate (4 - (k + 1)) Lacking
 told_turn answers done k a o l h t e =
     let n : 4 - k ≡ suc (4 - (k + 1)) = omega arith in
-    (λ j. set ((t ∙ ap (λ (m : ℕ). map slot_told done ++ replicate m lacking_slot) n) j) k (e j))
-    ∙ set_at (map slot_told done) lacking_slot (replicate (4 - (k + 1)) lacking_slot) (slot_told o) k (length-map done slot_told ∙ l)
-    ∙ sym (ap (λ (x : List SlotAnswer). x ++ replicate (4 - (k + 1)) lacking_slot) (map-append slot_told done (o ∷ []))
-    ∙ append_assoc (map slot_told done) (slot_told o ∷ []) (replicate (4 - (k + 1)) lacking_slot))
+    (λ j. set ((t ∙ ap (λ (m : ℕ). map slot_told done ++ replicate m Lacking) n) j) k (e j))
+    ∙ set_at (map slot_told done) Lacking (replicate (4 - (k + 1)) Lacking) (slot_told o) k (length-map done slot_told ∙ l)
+    ∙ sym (ap (λ (x : List SlotAnswer). x ++ replicate (4 - (k + 1)) Lacking) (map-append slot_told done (o ∷ []))
+    ∙ append_assoc (map slot_told done) (slot_told o ∷ []) (replicate (4 - (k + 1)) Lacking))
 
 -- ---- the slot of the same channel in granule 0, as its answer tells it
-said_stopped : (o : Outcome) → said_refused (slot_told o).outcome ≡ is_stopped o
-unfolding said_refused slot_told is_stopped
-said_stopped (stopped r) = refl
-said_stopped (holds long short vs) = refl
+none_said : (o : Outcome) → is_none (said_long (slot_told o)) ≡ is_stopped o
+unfolding said_long slot_told is_stopped
+none_said (stopped r) = refl
+none_said (holds long short vs) = refl
 
-told_long : (o : Outcome) → (slot_told o).long ≡ long_of o
-unfolding slot_told long_of
-told_long (stopped r) = refl
-told_long (holds long short vs) = refl
+long_said : (o : Outcome) → shared_of (said_long (slot_told o)) ≡ long_of o
+unfolding said_long slot_told long_of
+long_said (stopped r) = refl
+long_said (holds long short vs) = refl
 
 -- an answer before the k-th tells the outcome at its place
 told_at : (answers : List SlotAnswer) (done : List Outcome) (k j : ℕ) (z : SlotAnswer) (u : Outcome) → length done ≡ k
-    → answers ≡ map slot_told done ++ replicate (4 - k) lacking_slot → j < k → get_or answers j z ≡ slot_told (get_or done j u)
+    → answers ≡ map slot_told done ++ replicate (4 - k) Lacking → j < k → get_or answers j z ≡ slot_told (get_or done j u)
 told_at answers done k j z u l t h =
     let n : length (map slot_told done) ≡ length done = length-map done slot_told in
     ap (λ (x : List SlotAnswer). get_or x j z) t
-    ∙ get_or-append (map slot_told done) (replicate (4 - k) lacking_slot) z j (omega arith)
+    ∙ get_or-append (map slot_told done) (replicate (4 - k) Lacking) z j (omega arith)
     ∙ get_d_within (map slot_told done) j z (slot_told u) (omega arith)
     ∙ get_or-map slot_told done j u
 
@@ -94,25 +96,27 @@ some_channels h = by (is_two h.channels)
     by false = omega arith
 
 mate_told : (h : FrameHeader) (answers : List SlotAnswer) (done : List Outcome) (k : ℕ) → length done ≡ k
-    → answers ≡ map slot_told done ++ replicate (4 - k) lacking_slot
-    → mate_in (channel_count h) answers k ≡ slot_told (mate_of h done)
-unfolding mate_in mate_of
+    → answers ≡ map slot_told done ++ replicate (4 - k) Lacking
+    → mate_in (channel_count h) answers k ≡ said_long (slot_told (mate_of h done))
+unfolding mate_in mate_of said_long slot_told alone
 mate_told h answers done k l t =
     let c = channel_count h in
+    let said = λ (o : Outcome). said_long (slot_told o) in
     elim (dec_le c k) [
-      | yes m ↦ passed _ (le-ltb k c m) ∙ told_at answers done k (k - c) no_answer alone l t (omega (arith, some_channels h))
-          ∙ ap (λ (n : ℕ). slot_told (get_or done (n - c) alone)) (sym l) ∙ ap slot_told (sym (passed _ (le-ltb (length done) c (omega arith))))
-      | no m ↦ picked _ (lt-ltb k c (omega arith)) ∙ ap slot_told (sym (picked _ (lt-ltb (length done) c (omega arith))))
+      | yes m ↦ passed _ (le-ltb k c m) ∙ ap said_long (told_at answers done k (k - c) no_answer alone l t (omega (arith, some_channels h)))
+          ∙ ap (λ (n : ℕ). said (get_or done (n - c) alone)) (sym l) ∙ ap said (sym (passed _ (le-ltb (length done) c (omega arith))))
+      | no m ↦ picked _ (lt-ltb k c (omega arith)) ∙ ap said (sym (picked _ (lt-ltb (length done) c (omega arith))))
     ]
 
 -- so the slot comes to what the definition says after the outcomes before it
 pub mated_slot : (h : FrameHeader) (i : SideInfo) (s : List ℕ) (at : ℕ) (answers : List SlotAnswer) (done : List Outcome) (k : ℕ) (r : SlotRecord)
-    (lost : Bool) (old : List ℕ) → length done ≡ k → answers ≡ map slot_told done ++ replicate (4 - k) lacking_slot → Mated (channel_count h) answers k lost old
-    → slot_in s at (setting_of h i k r) r lost old ≡ slot_in s at (setting_of h i (length done) r) r (is_stopped (mate_of h done)) (long_of (mate_of h done))
-mated_slot h i s at answers done k r lost old l t m =
-    let mate = mate_told h answers done k l t in
-    let same_lost = m.lost_is ∙ ap (λ (x : SlotAnswer). said_refused x.outcome) mate ∙ said_stopped (mate_of h done) in
-    let same_old = m.old_is ∙ ap (λ (x : SlotAnswer). x.long) mate ∙ told_long (mate_of h done) in
+    (m : Option (List ℕ)) → length done ≡ k → answers ≡ map slot_told done ++ replicate (4 - k) Lacking → m ≡ mate_in (channel_count h) answers k
+    → slot_in s at (setting_of h i k r) r (is_none m) (shared_of m)
+    ≡ slot_in s at (setting_of h i (length done) r) r (is_stopped (mate_of h done)) (long_of (mate_of h done))
+mated_slot h i s at answers done k r m l t e =
+    let mate = e ∙ mate_told h answers done k l t in
+    let same_lost = ap is_none mate ∙ none_said (mate_of h done) in
+    let same_old = ap shared_of mate ∙ long_said (mate_of h done) in
     λ q. slot_in s at (setting_of h i (sym l q) r) r (same_lost q) (same_old q)
 
 -- ---- the loop
@@ -123,7 +127,7 @@ pub record Turning (h : FrameHeader) (i : SideInfo) (s : List ℕ) (d₀ d : Lis
   pub room : 2304 ≤ length d₀
   pub long : length d ≡ length d₀
   pub rest : slots_of h i s ≡ done ++ slots_from h i s at done (drop k (records h i))
-  pub told : answers ≡ map slot_told done ++ replicate (4 - k) lacking_slot
+  pub told : answers ≡ map slot_told done ++ replicate (4 - k) Lacking
   pub numbers : d ≡ numbers_from 0 done d₀
 
 pub four_at_most : (h : FrameHeader) → granules h * channel_count h ≤ 4
@@ -160,16 +164,16 @@ module _ (h : FrameHeader) (i : SideInfo) (s : List ℕ) (d₀ d : List ℤ) (an
       drop-cons (records h i) k absent (omega (arith, records-long))
       ∙ (λ j. (get_or-take (granules h * channel_count h) i.slots k absent c ∙ sym e) j ∷ drop (sym (add-one k) j) (records h i))
 
-  pub turning_turn : (r : SlotRecord) (lost : Bool) (old : List ℕ) (a : SlotAnswer) (left : List ℤ) → k < granules h * channel_count h
-      → r ≡ get_or i.slots k absent → r.part2_3_length < 4096 → Mated (channel_count h) answers k lost old
-      → a ≡ slot_told (slot_in s at (setting_of h i k r) r lost old)
-      → left ≡ numbers_after (slot_in s at (setting_of h i k r) r lost old) (576 * k) d
+  pub turning_turn : (r : SlotRecord) (m : Option (List ℕ)) (a : SlotAnswer) (left : List ℤ) → k < granules h * channel_count h
+      → r ≡ get_or i.slots k absent → r.part2_3_length < 4096 → m ≡ mate_in (channel_count h) answers k
+      → a ≡ slot_told (slot_in s at (setting_of h i k r) r (is_none m) (shared_of m))
+      → left ≡ numbers_after (slot_in s at (setting_of h i k r) r (is_none m) (shared_of m)) (576 * k) d
       → Turning h i s d₀ left (set answers k a) (at + r.part2_3_length) (k + 1)
   unfolding slots_from then_slots
-  turning_turn r lost old a left c e small m t n =
-      let o = slot_in s at (setting_of h i k r) r lost old in
+  turning_turn r m a left c e small f t n =
+      let o = slot_in s at (setting_of h i k r) r (is_none m) (shared_of m) in
       let few = four_at_most h in
-      let p = mated_slot h i s at answers w.done k r lost old w.count w.told m in
+      let p = mated_slot h i s at answers w.done k r m w.count w.told f in
       let q : 576 * k ≡ 0 + 576 * length w.done = omega (arith, w.count) in
       let after = slots_from h i s (at + r.part2_3_length) (w.done ++ (o ∷ [])) (drop (k + 1) (records h i)) in
       record {
@@ -192,7 +196,7 @@ module _ (h : FrameHeader) (i : SideInfo) (s : List ℕ) (d₀ d : List ℤ) (an
   turning_end c =
       let none : drop k (records h i) ≡ [] = drop_of_length-le (records h i) {i = k} (omega (arith, records-long)) in
       let all : slots_of h i s ≡ w.done = w.rest ∙ ap (λ (l : List SlotRecord). w.done ++ slots_from h i s at w.done l) none ∙ append-nil w.done in (
-        w.told ∙ ap (λ (x : ℕ). map slot_told w.done ++ replicate (4 - x) lacking_slot) (sym w.count) ∙ sym (ap slots_told all),
+        w.told ∙ ap (λ (x : ℕ). map slot_told w.done ++ replicate (4 - x) Lacking) (sym w.count) ∙ sym (ap slots_told all),
         w.numbers ∙ sym (ap (λ (os : List Outcome). numbers_from 0 os d₀) all),
       )
 
@@ -221,14 +225,14 @@ part_long k d h =
     mid_len (576 * k) (576 * k + 576) d h ∙ e
 
 pub turning_part : (h : FrameHeader) (i : SideInfo) (s : List ℕ) (d₀ d : List ℤ) (answers : List SlotAnswer) (at k : ℕ) (w : Turning h i s d₀ d answers at k)
-    → is_side h i ≡ true → (r : SlotRecord) (g : Setting) (lost : Bool) (old : List ℕ) (a : SlotAnswer) (left : List ℤ) → k < granules h * channel_count h
-    → Reads h i k r → g ≡ setting_of h i k r → Mated (channel_count h) answers k lost old
-    → SlotRead (slot_in s at g r lost old) (mid_of (576 * k) (576 * k + 576 - 576 * k) d) a left
+    → is_side h i ≡ true → (r : SlotRecord) (g : Setting) (m : Option (List ℕ)) (a : SlotAnswer) (left : List ℤ) → k < granules h * channel_count h
+    → Reads h i k r → g ≡ setting_of h i k r → m ≡ mate_in (channel_count h) answers k
+    → SlotRead (slot_in s at g r (is_none m) (shared_of m)) (mid_of (576 * k) (576 * k + 576 - 576 * k) d) a left
     → Turning h i s d₀ (put_mid (576 * k) (576 * k + 576 - 576 * k) d left) (set answers k a) (at + r.part2_3_length) (k + 1)
-turning_part h i s d₀ d answers at k w side r g lost old a left c q e m t =
+turning_part h i s d₀ d answers at k w side r g m a left c q e f t =
     let n : 576 * k + 576 - 576 * k ≡ 576 = omega arith in
-    let o = slot_in s at (setting_of h i k r) r lost old in
-    let by_setting = ap (λ (x : Setting). slot_in s at x r lost old) e in
+    let o = slot_in s at (setting_of h i k r) r (is_none m) (shared_of m) in
+    let by_setting = ap (λ (x : Setting). slot_in s at x r (is_none m) (shared_of m)) e in
     let own : left ≡ numbers_after o 0 (mid_of (576 * k) 576 d) = t.numbers ∙ (λ j. numbers_after (by_setting j) 0 (mid_of (576 * k) (n j) d)) in
-    turning_turn h i s d₀ d answers at k w (four_slots h i side) r lost old a _ c q.same q.length-lt m (t.answer ∙ ap slot_told by_setting)
+    turning_turn h i s d₀ d answers at k w (four_slots h i side) r m a _ c q.same q.length-lt f (t.answer ∙ ap slot_told by_setting)
     ((λ j. put_mid (576 * k) (n j) d left) ∙ part_back o (576 * k) d left (omega (arith, w.room, w.long, four_at_most h)) own)

@@ -1,3 +1,3 @@
--- What the helpers' contracts say beside the definition.
-pub mod Reasons
+-- What the helpers' contracts say beside the definition, and one frame over lent memory.
+pub mod Memory
 pub mod Slot

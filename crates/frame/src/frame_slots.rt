@@ -1,51 +1,28 @@
 // The slots of a frame in turn.
 ghost use Rattle.std.specs.Prelude.{◌≡◌, true, map, ◌≤◌, ◌<◌, length, get_or};
-ghost use Rattle.standard.specs.Sizes.{per_frame};
 ghost use Rattle.standard.specs.SideInfo.{is_side};
 ghost use Rattle.standard.specs.Slots.{slots_of, slots_told, numbers_from};
-ghost use Rattle.frame.specs.Slot.{said_refused, Mated};
+ghost use Rattle.frame.specs.Slot.{mate_in};
 
 use crate::answers::lacking_slots;
 use crate::setting::setting_of;
 use crate::slot::read_slot;
 use derived::{channel_count, granules};
-use standard::{FrameHeader, SLOT_NUMBERS, SideInfo, SlotAnswer, SlotOutcome};
+use standard::{FRAME_NUMBERS, FrameHeader, SLOT_NUMBERS, SideInfo, SlotAnswer};
 
-fn was_refused(o: SlotOutcome) -> bool
-    ensures { result ≡ said_refused o }
-{
-    match o {
-        SlotOutcome::Read { count: _ } => false,
-        SlotOutcome::NotRead(_) => true,
-        SlotOutcome::Lacking => false,
-    }
-}
-
-// What a slot may share with: whether its channel's granule 0 slot was refused, and that slot's long factors. A slot of granule 0
-// shares with none.
-#[derive(Clone, Copy)]
-struct Mate {
-    lost: bool,
-    old: [u8; 22],
-}
-
-fn mate_of(answers: [SlotAnswer; 4], k: usize, channels: usize) -> Mate
+// What a slot may share with: the long factors of its channel's granule 0 slot, or none where that slot was refused. A slot of granule 0
+// shares with none, and has zeros.
+fn mate_of(answers: [SlotAnswer; 4], k: usize, channels: usize) -> Option<[u8; 22]>
     requires { (k < 4) × (0 < channels) }
-    ensures { Mated channels answers k result.lost result.old }
+    ensures { result ≡ mate_in channels answers k }
 {
     if k < channels {
-        return Mate {
-            lost: false,
-            old: [0u8; 22],
-        };
+        return Some([0; 22]);
     }
-    let j = k - channels;
-    let a = answers[j];
-    let o = a.outcome;
-    let old = a.long;
-    Mate {
-        lost: was_refused(o),
-        old,
+    match answers[k - channels] {
+        SlotAnswer::Read { long, .. } => Some(long),
+        SlotAnswer::NotRead(_) => None,
+        SlotAnswer::Lacking => Some([0; 22]),
     }
 }
 
@@ -53,9 +30,9 @@ pub(crate) fn slots_from(
     h: FrameHeader,
     i: SideInfo,
     main: &[u8],
-    numbers: &mut [i32],
+    numbers: &mut [i32; FRAME_NUMBERS],
 ) -> [SlotAnswer; 4]
-    requires { (per_frame ≤ length numbers.old) × (is_side h i ≡ true) }
+    requires { is_side h i ≡ true }
     ensures { (result ≡ slots_told (slots_of h i main.now))
         × (numbers.new ≡ numbers_from 0 (slots_of h i main.now) numbers.old) }
 {
@@ -63,18 +40,14 @@ pub(crate) fn slots_from(
     let n = granules(h) * channels;
     let mut answers = lacking_slots();
     let mut at = 0u32;
-    let mut k = 0usize;
-    while k < n {
+    for k in 0..n {
         let r = i.slots[k];
-        let m = mate_of(answers, k, channels);
+        let old = mate_of(answers, k, channels);
         let g = setting_of(h, i, k, r);
-        let old = m.old;
         let from = SLOT_NUMBERS * k;
         let end = from + SLOT_NUMBERS;
-        let a = read_slot(g, r, m.lost, old, main, at, &mut numbers[from..end]);
-        answers[k] = a;
+        answers[k] = read_slot(g, r, old, main, at, &mut numbers[from..end]);
         at += r.part2_3_length as u32;
-        k += 1;
     }
     answers
 }

@@ -1,68 +1,50 @@
 // One slot, from its own bits of the main data.
-ghost use Rattle.std.specs.Prelude.{◌≡◌, ◌&&◌, ◌+◌, ◌*◌, ◌≤◌, ◌<◌, length};
+ghost use Rattle.std.specs.Prelude.{◌≡◌, ◌&&◌, ◌+◌, ◌*◌, ◌≤◌, ◌<◌, length, is_none};
 ghost use Rattle.standard.specs.Sizes.{per_slot, most_big_values};
 ghost use Rattle.standard.specs.Bits.{bits};
 ghost use Rattle.standard.specs.Slots.{any_of, slot_told, slot_in, slot_of, numbers_after};
-ghost use Rattle.frame.specs.Slot.{SlotRead};
+ghost use Rattle.frame.specs.Slot.{SlotRead, shared_of};
 
-use crate::answers::not_read;
-use huffman::{HuffmanAnswer, read_huffman};
+use huffman::read_huffman;
 use scale_factors::read_scale_factors;
-use standard::{Refusal, Setting, SlotAnswer, SlotOutcome, SlotRecord};
+use standard::{Refusal, Setting, SlotAnswer, SlotRecord};
 
 // Whether a sharing bit is set and the slot that it shares with was refused.
 fn share_lost(shares: [bool; 4], lost: bool) -> bool
     ensures { result ≡ any_of shares && lost }
 {
-    if shares[0] {
-        return lost;
-    }
-    if shares[1] {
-        return lost;
-    }
-    if shares[2] {
-        return lost;
-    }
-    if shares[3] {
-        return lost;
-    }
-    false
+    (shares[0] | shares[1] | shares[2] | shares[3]) & lost
 }
 
 // A slot whose bits are all there.
 fn read_whole(
     g: Setting,
     r: SlotRecord,
-    lost: bool,
-    old: [u8; 22],
+    old: Option<[u8; 22]>,
     main: &[u8],
     at: u32,
     numbers: &mut [i32],
 ) -> SlotAnswer
     requires { (length numbers.old ≡ per_slot) × (r.big_values ≤ most_big_values) × (r.part2_3_length < 4096) × (at ≤ 16384) }
-    ensures { SlotRead (slot_of g r lost old (bits main.now at r.part2_3_length)) numbers.old result numbers.new }
+    ensures { SlotRead (slot_of g r (is_none old) (shared_of old) (bits main.now at r.part2_3_length)) numbers.old result numbers.new }
 {
     let length = r.part2_3_length as u32;
-    let f = read_scale_factors(g, r, old, main, at);
+    let f = read_scale_factors(g, r, old.unwrap_or([0; 22]), main, at);
     let part2 = f.bits;
     if length < part2 {
-        return not_read(Refusal::FactorOverrun);
+        return SlotAnswer::NotRead(Refusal::FactorOverrun);
     }
     let shares = g.shares;
-    if share_lost(shares, lost) {
-        return not_read(Refusal::LostShare);
+    if share_lost(shares, old.is_none()) {
+        return SlotAnswer::NotRead(Refusal::LostShare);
     }
     let rate = g.rate;
     match read_huffman(rate, r, main, at + part2, at + length, numbers) {
-        HuffmanAnswer::Uncounted(why) => not_read(why),
-        HuffmanAnswer::Counted { count } => {
+        Err(why) => SlotAnswer::NotRead(why),
+        Ok(count) => {
             let long = f.long;
             let short = f.short;
-            SlotAnswer {
-                outcome: SlotOutcome::Read { count },
-                long,
-                short,
-            }
+            SlotAnswer::Read { count, long, short }
         }
     }
 }
@@ -71,18 +53,17 @@ fn read_whole(
 pub(crate) fn read_slot(
     g: Setting,
     r: SlotRecord,
-    lost: bool,
-    old: [u8; 22],
+    old: Option<[u8; 22]>,
     main: &[u8],
     at: u32,
     numbers: &mut [i32],
 ) -> SlotAnswer
     requires { (length numbers.old ≡ per_slot) × (r.big_values ≤ most_big_values) × (r.part2_3_length < 4096) × (at ≤ 16384) }
-    ensures { SlotRead (slot_in main.now at g r lost old) numbers.old result numbers.new }
+    ensures { SlotRead (slot_in main.now at g r (is_none old) (shared_of old)) numbers.old result numbers.new }
 {
     let end = at as usize + r.part2_3_length as usize;
     if main.len() < (end + 7) / 8 {
-        return not_read(Refusal::MissingBits);
+        return SlotAnswer::NotRead(Refusal::MissingBits);
     }
-    read_whole(g, r, lost, old, main, at, numbers)
+    read_whole(g, r, old, main, at, numbers)
 }

@@ -2,14 +2,12 @@
 // out in specs/Calls.antt. A frame's bytes are always handed in from the first byte of its header on.
 #![tactic(auto)]
 
-ghost use Rattle.std.specs.Prelude.{◌≡◌, ◌≤◌, length};
-ghost use Rattle.standard.specs.Sizes.{per_frame, per_slot};
-ghost use Rattle.standard.specs.Told.{told};
+ghost use Rattle.std.specs.Prelude.{◌≡◌, length};
 ghost use Rattle.standard.specs.Header.{header_of};
 ghost use Rattle.standard.specs.Reservoir.{«emptied»};
-ghost use Rattle.front_end.specs.Calls.{per_rows, FrameDone, frame_step, SlotsDone, slots_step, records_in, ReorderDone, reorder_step, sizes_told};
+ghost use Rattle.front_end.specs.Calls.{call_told, unread_in_numbers, head_in_numbers, FrameDone, frame_step, SlotsDone, slots_step, records_in, ReorderDone, reorder_step, sizes_told};
 
-use crate::rows::{ROWS, tell, told_of, verdict_told};
+use crate::rows::{ROWS, put_rows};
 use derived::{
     bps, channel_count, frame_length, granules, header_size, hz, main_size, number_of, offset_of,
     side_size,
@@ -19,11 +17,11 @@ use header::read_frame_header;
 use reorder::reorder;
 use reservoir::emptied;
 use side_info::read_side_info;
-use standard::{
-    FRAME_NUMBERS, FrameHeader, HeaderAnswer, Refusal, Reservoir, SLOT_NUMBERS, Verdict,
-};
+use standard::{FRAME_NUMBERS, FrameHead, FrameRefusal, Refusal, Reservoir, SLOT_NUMBERS};
 
 mod rows;
+
+// The C interface: what C and Rust lend are slices, and what they are answered are structs of numbers. Within, a call is a Result.
 
 // What a call answers: 0 or the number of the refusal; after refusal 2 the offset of the first byte that was needed and absent, else 0.
 #[repr(C)]
@@ -62,6 +60,64 @@ pub struct Sizes {
     pub bitrate: u32,
 }
 
+// Sizes where there is no header.
+const NO_SIZES: Sizes = Sizes {
+    refusal: 0,
+    offset: 0,
+    length: 0,
+    header: 0,
+    side: 0,
+    main: 0,
+    granules: 0,
+    channels: 0,
+    rate: 0,
+    bitrate: 0,
+};
+
+// A call in numbers.
+fn call_told(r: Result<(), Refusal>) -> CallTold
+    ensures { result ≡ call_told r }
+{
+    match r {
+        Ok(()) => CallTold {
+            refusal: 0,
+            offset: 0,
+        },
+        Err(why) => CallTold {
+            refusal: number_of(why),
+            offset: offset_of(why),
+        },
+    }
+}
+
+// A frame that is refused, and nothing is told of it, in numbers.
+fn frame_unread(why: Refusal, reservoir: usize) -> FrameTold
+    ensures { result ≡ unread_in_numbers why reservoir }
+{
+    let t = call_told(Err(why));
+    FrameTold {
+        refusal: t.refusal,
+        offset: t.offset,
+        length: 0,
+        main_data_begin: 0,
+        reservoir,
+    }
+}
+
+// One that was read, or only reaches too far back.
+fn frame_told(r: Result<(), Refusal>, head: FrameHead, kept: Reservoir) -> FrameTold
+    ensures { result ≡ head_in_numbers r head kept }
+{
+    let t = call_told(r);
+    FrameTold {
+        refusal: t.refusal,
+        offset: t.offset,
+        length: head.length,
+        main_data_begin: usize::from(head.info.main_data_begin),
+        reservoir: kept.length,
+    }
+}
+
 // One frame. `reservoir` is the length that the last frame answered.
 pub fn front_end_frame(
     frame: &[u8],
@@ -74,57 +130,45 @@ pub fn front_end_frame(
         (frame_step frame.now bytes.old reservoir (length numbers.old) (length rows.old)) result bytes.new
         numbers.new rows.new }
 {
-    if rows.len() < ROWS {
-        let t = told_of(Refusal::UnfitMemory);
-        return FrameTold {
-            refusal: t.refusal,
-            offset: t.offset,
-            length: 0,
-            main_data_begin: 0,
-            reservoir,
-        };
-    }
-    let a = process_frame(frame, bytes, Reservoir { length: reservoir }, numbers);
-    let verdict = a.verdict;
-    let slots = a.slots;
-    let kept = a.reservoir;
-    let info = a.info;
-    let records = info.slots;
-    let begin = info.main_data_begin as usize;
-    let t = tell(verdict, records, slots, rows);
-    FrameTold {
-        refusal: t.refusal,
-        offset: t.offset,
-        length: a.length,
-        main_data_begin: begin,
-        reservoir: kept.length,
+    let Some(rows) = rows.first_chunk_mut::<ROWS>() else {
+        return frame_unread(Refusal::UnfitMemory, reservoir);
+    };
+    let mut kept = Reservoir { length: reservoir };
+    match process_frame(frame, bytes, &mut kept, numbers) {
+        Ok(f) => {
+            put_rows(rows, f.head.info.slots, f.slots);
+            frame_told(Ok(()), f.head, kept)
+        }
+        Err(FrameRefusal::OutOfReach(head)) => {
+            frame_told(Err(Refusal::ShortReservoir), head, kept)
+        }
+        Err(FrameRefusal::Unread(why)) => frame_unread(why, kept.length),
     }
 }
 
-// The slots under a header and the side information that follows it.
-fn slots_under(
-    h: FrameHeader,
+// The slots, and their rows where they were read.
+fn read_slots_of(
     frame: &[u8],
     main: &[u8],
     numbers: &mut [i32],
     rows: &mut [u16],
-) -> CallTold
-    requires { (per_rows ≤ length rows.old) × (per_frame ≤ length numbers.old) × (header_of frame.now ≡ told h) }
+) -> Result<(), Refusal>
     ensures { SlotsDone numbers.old rows.old (records_in frame.now)
-        (slots_step frame.now main.now (length numbers.old) (length rows.old)) result numbers.new
+        (slots_step frame.now main.now (length numbers.old) (length rows.old)) (call_told result) numbers.new
         rows.new }
 {
-    let a = read_side_info(h, frame);
-    let i = a.info;
-    let verdict = a.verdict;
-    if let Verdict::Refused(why) = verdict {
-        return told_of(why);
+    let Some(rows) = rows.first_chunk_mut::<ROWS>() else {
+        return Err(Refusal::UnfitMemory);
+    };
+    let few = numbers.len() < FRAME_NUMBERS;
+    if few {
+        return Err(Refusal::UnfitMemory);
     }
-    let s = read_slots(h, i, main, numbers);
-    let said = s.verdict;
-    let slots = s.slots;
-    let records = i.slots;
-    tell(said, records, slots, rows)
+    let h = read_frame_header(frame)?;
+    let i = read_side_info(h, frame)?;
+    let slots = read_slots(h, i, main, numbers)?;
+    put_rows(rows, i.slots, slots);
+    Ok(())
 }
 
 // The slots of a frame from given main data of any length; of the frame only the header and the side information are read.
@@ -133,91 +177,63 @@ pub fn front_end_slots(frame: &[u8], main: &[u8], numbers: &mut [i32], rows: &mu
         (slots_step frame.now main.now (length numbers.old) (length rows.old)) result numbers.new
         rows.new }
 {
-    if (rows.len() < ROWS) | (numbers.len() < FRAME_NUMBERS) {
-        return told_of(Refusal::UnfitMemory);
-    }
-    match read_frame_header(frame) {
-        HeaderAnswer::NoHeader(why) => told_of(why),
-        HeaderAnswer::Header(h) => slots_under(h, frame, main, numbers, rows),
-    }
+    call_told(read_slots_of(frame, main, numbers, rows))
 }
 
 // For a gap on the card: the length of a reservoir of which no byte is meant.
 pub fn front_end_emptied() -> usize
     ensures { result ≡ «emptied».length }
 {
-    let e = emptied();
-    e.length
+    emptied().length
 }
 
-// The reorder under a header and the side information that follows it.
-fn reorder_under(h: FrameHeader, frame: &[u8], slot: usize, numbers: &mut [i32]) -> CallTold
-    requires { (per_slot ≤ length numbers.old) × (header_of frame.now ≡ told h) }
-    ensures { ReorderDone numbers.old (reorder_step frame.now slot numbers.old) result numbers.new }
+// The reorder of the slot that the frame has by this number.
+fn reorder_slot(frame: &[u8], slot: usize, numbers: &mut [i32]) -> Result<(), Refusal>
+    ensures { ReorderDone numbers.old (reorder_step frame.now slot numbers.old) (call_told result) numbers.new }
 {
-    let a = read_side_info(h, frame);
-    let i = a.info;
-    let verdict = a.verdict;
-    if let Verdict::Refused(why) = verdict {
-        return told_of(why);
+    if numbers.len() < SLOT_NUMBERS {
+        return Err(Refusal::UnfitMemory);
     }
-    if slot < granules(h) * channel_count(h) {
-        let r = i.slots[slot];
-        return verdict_told(reorder(h, r, numbers));
+    let h = read_frame_header(frame)?;
+    let i = read_side_info(h, frame)?;
+    if granules(h) * channel_count(h) <= slot {
+        return Err(Refusal::MadeUpRecord);
     }
-    told_of(Refusal::MadeUpRecord)
+    reorder(h, i.slots[slot], numbers)
 }
 
 // The reorder of a slot's 576 numbers, by the frame's own record of the slot; only short slots are changed.
 pub fn front_end_reorder(frame: &[u8], slot: usize, numbers: &mut [i32]) -> CallTold
     ensures { ReorderDone numbers.old (reorder_step frame.now slot numbers.old) result numbers.new }
 {
-    if numbers.len() < SLOT_NUMBERS {
-        return told_of(Refusal::UnfitMemory);
-    }
-    match read_frame_header(frame) {
-        HeaderAnswer::NoHeader(why) => told_of(why),
-        HeaderAnswer::Header(h) => reorder_under(h, frame, slot, numbers),
-    }
-}
-
-// What follows from a header.
-fn sizes_of(h: FrameHeader) -> Sizes
-    ensures { result ≡ sizes_told (told h) }
-{
-    let rate = h.rate;
-    let bitrate = h.bitrate;
-    Sizes {
-        refusal: 0,
-        offset: 0,
-        length: frame_length(h),
-        header: header_size(h),
-        side: side_size(h),
-        main: main_size(h),
-        granules: granules(h),
-        channels: channel_count(h),
-        rate: hz(rate),
-        bitrate: bps(bitrate),
-    }
+    call_told(reorder_slot(frame, slot, numbers))
 }
 
 // The sizes of a frame, by the frame's first bytes.
+#[tactic(auto, unfolding(crate::specs::Calls::sizes_told))]
 pub fn front_end_sizes(frame: &[u8]) -> Sizes
     ensures { result ≡ sizes_told (header_of frame.now) }
 {
     match read_frame_header(frame) {
-        HeaderAnswer::NoHeader(why) => Sizes {
-            refusal: number_of(why),
-            offset: offset_of(why),
-            length: 0,
-            header: 0,
-            side: 0,
-            main: 0,
-            granules: 0,
-            channels: 0,
-            rate: 0,
-            bitrate: 0,
+        Ok(h) => Sizes {
+            refusal: 0,
+            offset: 0,
+            length: frame_length(h),
+            header: header_size(h),
+            side: side_size(h),
+            main: main_size(h),
+            granules: granules(h),
+            channels: channel_count(h),
+            rate: hz(h.rate),
+            bitrate: bps(h.bitrate),
         },
-        HeaderAnswer::Header(h) => sizes_of(h),
+        Err(why) => {
+            let t = call_told(Err(why));
+            Sizes {
+                refusal: t.refusal,
+                offset: t.offset,
+                ..NO_SIZES
+            }
+        }
     }
 }

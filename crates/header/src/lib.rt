@@ -1,20 +1,17 @@
 // A frame's header: read from its first bytes, and which header records bytes read to.
 #![tactic(auto)]
 
-ghost use Rattle.std.specs.Prelude.{◌≡◌, ◌&&◌, ◌<◌, ◌/◌, ◌%◌, leb, length};
+ghost use Rattle.std.specs.Prelude.{◌≡◌, ◌&&◌, ◌<◌, ◌/◌, ◌%◌, leb, length, Err};
 ghost use Rattle.standard.specs.Rows.{member};
-ghost use Rattle.standard.specs.Told.{refused};
-ghost use Rattle.standard.specs.Refusals.{told_header};
 ghost use Rattle.standard.specs.Header.{«bitrates», «rates», same_bitrate, same_rate, is_header, no_header};
 ghost use Rattle.standard.specs.Header.{version_of, channels_of, emphasis_of, «fields», last_bytes, second_byte, header_of};
 
 use derived::{bps, hz, is_mpeg1};
-use standard::{
-    BitRate, Channels, Emphasis, FrameHeader, HeaderAnswer, MpegVersion, Refusal, SampleRate,
-};
+use standard::{BitRate, Channels, Emphasis, FrameHeader, MpegVersion, Refusal, SampleRate};
 
 // ---- reading a header
 
+// Two lists of the standard, which differ in every rate but some: no rule makes one of the other.
 const MPEG1_BITRATES: [BitRate; 14] = [
     BitRate::Kbps32,
     BitRate::Kbps40,
@@ -50,6 +47,7 @@ const MPEG2_BITRATES: [BitRate; 14] = [
 ];
 
 // The bitrates of a version, from field 1 on. MPEG-2.5 has those of MPEG-2.
+#[tactic(auto, unfolding(standard::specs::Header::bitrates))]
 fn bitrates(v: MpegVersion) -> [BitRate; 14]
     ensures { result ≡ «bitrates» v }
 {
@@ -60,6 +58,7 @@ fn bitrates(v: MpegVersion) -> [BitRate; 14]
 }
 
 // The sample rates of a version, from field 0 on.
+#[tactic(auto, unfolding(standard::specs::Header::rates))]
 fn rates(v: MpegVersion) -> [SampleRate; 3]
     ensures { result ≡ «rates» v }
 {
@@ -78,6 +77,9 @@ fn rates(v: MpegVersion) -> [SampleRate; 3]
     }
 }
 
+// ---- from the numbers of the fields; `standard`, whose types these are, holds no code, so that no other crate can write a conversion for them
+
+#[tactic(auto, unfolding(standard::specs::Header::version_of, standard::specs::Told::pick))]
 fn version_of(v: u8) -> MpegVersion
     ensures { result ≡ version_of v }
 {
@@ -88,6 +90,7 @@ fn version_of(v: u8) -> MpegVersion
     }
 }
 
+#[tactic(auto, unfolding(standard::specs::Header::emphasis_of, standard::specs::Told::pick))]
 fn emphasis_of(v: u8) -> Emphasis
     ensures { result ≡ emphasis_of v }
 {
@@ -99,6 +102,7 @@ fn emphasis_of(v: u8) -> Emphasis
 }
 
 // Mode and mode extension, of a header's fourth byte.
+#[tactic(auto, unfolding(standard::specs::Header::channels_of, standard::specs::Told::pick))]
 fn channels_of(b: u8) -> Channels
     ensures { result ≡ channels_of b }
 {
@@ -115,6 +119,7 @@ fn channels_of(b: u8) -> Channels
 }
 
 // The header that a second, third and fourth byte spell, which passed every test.
+#[tactic(auto, unfolding(standard::specs::Header::fields))]
 fn fields(b1: u8, b2: u8, b3: u8) -> FrameHeader
     requires { (0 < b2 / 16) × (b2 / 16 < 15) × (b2 / 4 % 4 < 3) }
     ensures { result ≡ «fields» b1 b2 b3 }
@@ -138,60 +143,59 @@ fn fields(b1: u8, b2: u8, b3: u8) -> FrameHeader
 }
 
 // The bytes of a header are needed from the first on: the first absent one stands where those that are there end.
-fn no_bytes(frame: &[u8]) -> HeaderAnswer
+fn no_bytes(frame: &[u8]) -> Result<FrameHeader, Refusal>
     requires { length frame.now < 6 }
-    ensures { told_header result ≡ refused (Refusal.AbsentBytes (length frame.now)) }
+    ensures { result ≡ Err (Refusal.AbsentBytes (length frame.now)) }
 {
     let offset = frame.len() as u16;
-    HeaderAnswer::NoHeader(Refusal::AbsentBytes { offset })
+    Err(Refusal::AbsentBytes { offset })
 }
 
 // The third and fourth byte. The CRC's two bytes are needed last of all.
 #[tactic(auto, unfolding(standard::specs::Header::last_bytes, standard::specs::Told::pick))]
-fn last_bytes(frame: &[u8]) -> HeaderAnswer
+fn last_bytes(frame: &[u8]) -> Result<FrameHeader, Refusal>
     requires { 3 < length frame.now }
-    ensures { told_header result ≡ last_bytes frame.now }
+    ensures { result ≡ last_bytes frame.now }
 {
     let b1 = frame[1];
     let b2 = frame[2];
     let b3 = frame[3];
     if b2 / 16 == 0 {
-        return HeaderAnswer::NoHeader(Refusal::FreeBitrate);
+        return Err(Refusal::FreeBitrate);
     }
     if b2 / 16 == 15 {
-        return HeaderAnswer::NoHeader(Refusal::ForbiddenBitrate);
+        return Err(Refusal::ForbiddenBitrate);
     }
     if b2 / 4 % 4 == 3 {
-        return HeaderAnswer::NoHeader(Refusal::ReservedRate);
+        return Err(Refusal::ReservedRate);
     }
     if b3 % 4 == 2 {
-        return HeaderAnswer::NoHeader(Refusal::ReservedEmphasis);
+        return Err(Refusal::ReservedEmphasis);
     }
     if b1 % 2 == 0 && frame.len() < 6 {
         return no_bytes(frame);
     }
-    let h = fields(b1, b2, b3);
-    HeaderAnswer::Header(h)
+    Ok(fields(b1, b2, b3))
 }
 
 // The second byte, and whether the third and fourth are there: they are needed together.
 #[tactic(auto, unfolding(standard::specs::Header::second_byte, standard::specs::Told::pick))]
-fn second_byte(frame: &[u8]) -> HeaderAnswer
+fn second_byte(frame: &[u8]) -> Result<FrameHeader, Refusal>
     requires { 1 < length frame.now }
-    ensures { told_header result ≡ second_byte frame.now }
+    ensures { result ≡ second_byte frame.now }
 {
     let b1 = frame[1];
     if b1 < 224 {
-        return HeaderAnswer::NoHeader(Refusal::NoSync);
+        return Err(Refusal::NoSync);
     }
     if b1 / 8 % 4 == 1 {
-        return HeaderAnswer::NoHeader(Refusal::ReservedVersion);
+        return Err(Refusal::ReservedVersion);
     }
     if b1 / 2 % 4 == 0 {
-        return HeaderAnswer::NoHeader(Refusal::ReservedLayer);
+        return Err(Refusal::ReservedLayer);
     }
     if b1 / 2 % 4 != 1 {
-        return HeaderAnswer::NoHeader(Refusal::OtherLayer);
+        return Err(Refusal::OtherLayer);
     }
     if frame.len() < 4 {
         return no_bytes(frame);
@@ -200,14 +204,14 @@ fn second_byte(frame: &[u8]) -> HeaderAnswer
 }
 
 // A frame's header, or why there is none: the first fault decides, as the bytes come.
-pub fn read_frame_header(frame: &[u8]) -> HeaderAnswer
-    ensures { told_header result ≡ header_of frame.now }
+pub fn read_frame_header(frame: &[u8]) -> Result<FrameHeader, Refusal>
+    ensures { result ≡ header_of frame.now }
 {
     if frame.len() < 1 {
         return no_bytes(frame);
     }
     if frame[0] != 255 {
-        return HeaderAnswer::NoHeader(Refusal::NoSync);
+        return Err(Refusal::NoSync);
     }
     if frame.len() < 2 {
         return no_bytes(frame);
@@ -217,6 +221,7 @@ pub fn read_frame_header(frame: &[u8]) -> HeaderAnswer
 
 // ---- which headers bytes read to
 
+// Kept beside `(least..=most).contains(&n)`, whose promise is in `partial_cmp`: tried, and the proofs of the rows didn't close.
 fn within(n: u32, least: u32, most: u32) -> bool
     ensures { result ≡ (leb least n && leb n most) }
 {
@@ -246,16 +251,15 @@ fn has_rate(v: MpegVersion, f: SampleRate) -> bool
 }
 
 // Whether some bytes read to a header: its bitrate and its rate are its version's.
+#[tactic(auto, unfolding(standard::specs::Header::is_header))]
 pub fn is_header(h: FrameHeader) -> bool
     ensures { result ≡ is_header h }
 {
-    let version = h.version;
-    let bitrate = h.bitrate;
-    let rate = h.rate;
-    has_bitrate(version, bitrate) && has_rate(version, rate)
+    has_bitrate(h.version, h.bitrate) && has_rate(h.version, h.rate)
 }
 
 // What stands for a header where none is told.
+#[tactic(auto, unfolding(standard::specs::Header::no_header))]
 pub fn no_header() -> FrameHeader
     ensures { result ≡ no_header }
 {

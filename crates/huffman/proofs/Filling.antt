@@ -1,8 +1,9 @@
 -- Why quads one after the other leave what the definition says: the numbers that stand so far, then what the definition makes of the bits left, are the
 -- whole; and behind them nothing has changed.
+use Rattle.std.specs.Prelude.{Ok, Err}
 use mathlib.Core.Path.{◌≡◌, refl, sym, ap, ◌∙◌}
 use mathlib.Core.Bool.{Bool}
-use mathlib.Core.List.{List, [], ◌∷◌, ◌++◌, append-nil}
+use mathlib.Core.List.{List, [], ◌++◌, append-nil}
 use Prim.Native.Nat.{ℕ, suc, ◌+◌, ◌-◌, ◌/◌, ◌≤◌, ◌<◌}
 use native.Mathlib.Decide.{dec_le}
 use native.Mathlib.Omega.{arith}
@@ -11,13 +12,12 @@ use lib.ListN.{length, take, drop, length-append}
 use lib.Seq.{sets, sets-eq, length-sets, length-take-le, take_at, drop_at}
 use Rattle.standard.specs.Bits.{between}
 use Rattle.standard.specs.BitsLaws.{between-drop, between-length}
-use Rattle.standard.specs.Codes.{word_of}
+use Rattle.standard.specs.Codes.{word_of, taken}
 use Rattle.standard.specs.Numbers.{Numbers, got, prepend, quad_of, quads}
 use Rattle.standard.proofs.NumbersLaws.{prepend-prepend, quads-end, quads-dropped, quads-four}
-use Rattle.standard.specs.declared.Quad.TheVariants.{Four, Dropped}
+use Rattle.standard.specs.declared.Unread.TheVariants.{Cut}
 use Rattle.huffman.specs.Owns.{Owns}
 use Rattle.huffman.specs.Runs.{Says, NumbersRead}
-use Rattle.huffman.specs.declared.HuffmanAnswer.TheVariants.{Counted}
 use Rattle.huffman.proofs.Running.{drop-on}
 
 -- ---- numbers stored some at a time
@@ -65,7 +65,7 @@ quad-begin t from s start e out f p l = record {
 module _ (q : Numbers) (t from : ℕ) (s : List ℕ) (e : ℕ) (out₀ out : List ℤ) (at i : ℕ)
     (r : QuadLoop q t from s e out₀ out at i) where
   -- what was read stays, whichever bits are left
-  quad-done : (b : List Bool) → quads word_of t ((576 - i) / 4) (between s at e) ≡ got [] b → NumbersRead q from out₀ out (Counted i)
+  quad-done : (b : List Bool) → quads word_of t ((576 - i) / 4) (between s at e) ≡ got [] b → NumbersRead q from out₀ out (Ok i)
   unfolding prepend Says
   quad-done b g = record {
     long = r.fill.long;
@@ -80,13 +80,13 @@ module _ (q : Numbers) (t from : ℕ) (s : List ℕ) (e : ℕ) (out₀ out : Lis
     };
   }
 
-  pub quad-full : 572 < i → NumbersRead q from out₀ out (Counted i)
+  pub quad-full : 572 < i → NumbersRead q from out₀ out (Ok i)
   unfolding quads
   quad-full h =
       let z : (576 - i) / 4 ≡ 0 = omega arith in
       quad-done (between s at e) (ap (λ (m : ℕ). quads word_of t m (between s at e)) z)
 
-  quad-out : e ≤ at → NumbersRead q from out₀ out (Counted i)
+  quad-out : e ≤ at → NumbersRead q from out₀ out (Ok i)
   quad-out h = quad-done [] (quads-end word_of t ((576 - i) / 4) (between s at e) (omega (arith, between-length s at e)))
 
   -- four numbers fit, and a bit is left
@@ -99,26 +99,26 @@ module _ (q : Numbers) (t from : ℕ) (s : List ℕ) (e : ℕ) (out₀ out : Lis
         let z : (576 - i) / 4 ≡ suc ((576 - (i + 4)) / 4) = omega arith in
         ap (λ (m : ℕ). quads word_of t m (between s at e)) z
 
-    quad-dropped : Dropped ≡ quad_of word_of t (between s at e) → NumbersRead q from out₀ out (Counted i)
+    quad-dropped : Err Cut ≡ quad_of word_of t (between s at e) → NumbersRead q from out₀ out (Ok i)
     quad-dropped g = quad-done [] (one-quad ∙ quads-dropped word_of t ((576 - (i + 4)) / 4) (between s at e) left g)
 
-    quad-four : (v w x y : ℤ) (u : ℕ) → Four v w x y u ≡ quad_of word_of t (between s at e) → at + u ≤ e
-        → QuadLoop q t from s e out₀ (sets out i (v ∷ w ∷ x ∷ y ∷ [])) (at + u) (i + 4)
-    quad-four v w x y u g fit = record {
+    quad-four : (vs : List ℤ) (u : ℕ) → length vs ≡ 4 → Ok (taken vs u) ≡ quad_of word_of t (between s at e) → at + u ≤ e
+        → QuadLoop q t from s e out₀ (sets out i vs) (at + u) (i + 4)
+    quad-four vs u four g fit = record {
       low = omega (arith, r.low);
       high = omega arith;
       place = fit;
       fill =
           filling_turn q (quads word_of t ((576 - i) / 4) (between s at e))
-          (quads word_of t ((576 - (i + 4)) / 4) (between s (at + u) e)) out₀ out (v ∷ w ∷ x ∷ y ∷ []) i (i + 4) r.fill
-          (one-quad ∙ quads-four word_of t ((576 - (i + 4)) / 4) (between s at e) left v w x y u g
-          ∙ ap (λ (b : List Bool). prepend (v ∷ w ∷ x ∷ y ∷ []) (quads word_of t ((576 - (i + 4)) / 4) b)) (between-drop u s at e))
-          refl (omega arith);
+          (quads word_of t ((576 - (i + 4)) / 4) (between s (at + u) e)) out₀ out vs i (i + 4) r.fill
+          (one-quad ∙ quads-four word_of t ((576 - (i + 4)) / 4) (between s at e) left (taken vs u) g
+          ∙ ap (λ (b : List Bool). prepend vs (quads word_of t ((576 - (i + 4)) / 4) b)) (between-drop u s at e))
+          (ap (λ (n : ℕ). i + n) four) (omega arith);
     }
 
   -- a quad that owns u bits: it ends within those that are left, or is dropped
-  module _ (h : i ≤ 572) {v w x y : ℤ} {u : ℕ} (o : Owns (quad_of word_of t) (Four v w x y u) Dropped s at u) where
-    pub quad-stop : e < at + u → NumbersRead q from out₀ out (Counted i)
+  module _ (h : i ≤ 572) {vs : List ℤ} {u : ℕ} (o : Owns (quad_of word_of t) (Ok (taken vs u)) (Err Cut) s at u) where
+    pub quad-stop : e < at + u → NumbersRead q from out₀ out (Ok i)
     unfolding between
     quad-stop k =
         elim (dec_le e at) [
@@ -126,6 +126,6 @@ module _ (q : Numbers) (t from : ℕ) (s : List ℕ) (e : ℕ) (out₀ out : Lis
           | no l ↦ quad-dropped h (omega arith) (sym (o.short (e - at) (omega (arith, r.place))))
         ]
 
-    pub quad-turn : 0 < u → at + u ≤ e → QuadLoop q t from s e out₀ (sets out i (v ∷ w ∷ x ∷ y ∷ [])) (at + u) (i + 4)
+    pub quad-turn : length vs ≡ 4 → 0 < u → at + u ≤ e → QuadLoop q t from s e out₀ (sets out i vs) (at + u) (i + 4)
     unfolding between
-    quad-turn some k = quad-four h (omega arith) v w x y u (sym (o.whole (e - at) (omega arith))) k
+    quad-turn four some k = quad-four h (omega arith) vs u four (sym (o.whole (e - at) (omega arith))) k

@@ -1,4 +1,5 @@
 -- One step of a lookup: the cell that the bits of a word choose is the one that the bits of the bytes choose; and what the leaf at its end says.
+use Rattle.std.specs.Prelude.{Ok, Err}
 use mathlib.Core.Path.{◌≡◌, refl, sym, ap, subst, ◌∙◌}
 use mathlib.Core.Bool.{Bool, true, false, ◌||◌}
 use mathlib.Core.List.{List}
@@ -8,15 +9,12 @@ use native.Mathlib.Omega.{arith}
 use borrow.Author.Tests.{eqb-false}
 use lib.Dec.{eqb}
 use lib.IntN.{ℤ}
-use lib.ListN.{length, get_or}
+use lib.ListN.{get_or}
 use Rattle.standard.specs.Bits.{one, bits, field_at}
-use Rattle.standard.specs.Codes.{decode, word_of}
-use Rattle.standard.specs.Numbers.{two_of, pair_of}
+use Rattle.standard.specs.Codes.{decode, word_of, taken}
+use Rattle.standard.specs.Numbers.{two_of, pair_of, Pair}
 use Rattle.standard.specs.declared.Refusal.TheVariants.{PairOverrun}
-use Rattle.standard.specs.declared.Codeword.TheVariants.{Coded}
-use Rattle.standard.specs.declared.Pair.{Pair}
-use Rattle.standard.specs.declared.Pair.TheVariants.{Two, NoPair}
-use Rattle.huffman.specs.Cells.{cells}
+use Rattle.huffman.specs.Cells.{size, cells}
 use Rattle.huffman.specs.Ahead.{Ahead}
 use Rattle.huffman.specs.Found.{root_of, has_fifteen, FoundIn, TableAs}
 use Rattle.huffman.specs.Owns.{Owns}
@@ -24,7 +22,7 @@ use Rattle.huffman.specs.Signed.{held}
 use Rattle.huffman.proofs.Cutting.{bits-ahead}
 use Rattle.huffman.proofs.Reading.{known_word, word_owns}
 use Rattle.huffman.proofs.Owning.{pair-owns}
-use Rattle.huffman.proofs.Nodes.{size_is, Stands, stands_first, stands_some, stands_narrow, stands_near, stands_room, flag_at}
+use Rattle.huffman.proofs.Nodes.{Stands, stands_first, stands_some, stands_narrow, stands_near, stands_room, flag_at}
 
 -- where the cell of a step stands in the table
 abbrev pub place : ℕ → ℕ → ℕ → ℕ
@@ -34,17 +32,16 @@ module _ (table : ℕ) (s : List ℕ) (at word link used : ℕ) (w : Stands tabl
   place_is : place link word used ≡ link % 4096 + field_at s (at + used) (link / 4096)
   place_is = ap (λ (k : ℕ). link % 4096 + k) (h used (link / 4096) (omega (arith, stands_near table s at link used w)))
 
-  pub step_fits : (t : List ℕ) → t ≡ cells → (used < 64) × (0 < link / 4096) × (link / 4096 < 64) × (place link word used < length t)
-  step_fits t e = (
+  pub step_fits : (used < 64) × (0 < link / 4096) × (link / 4096 < 64) × (place link word used < size)
+  step_fits = (
     omega (arith, stands_near table s at link used w),
     stands_some table s at link used w,
     omega (arith, stands_narrow table s at link used w),
-    omega (arith, place_is, stands_room table s at link used w, ap length e, size_is),
+    omega (arith, place_is, stands_room table s at link used w),
   )
 
-  pub step_is : (t : List ℕ) → t ≡ cells → (e : ℕ) → e ≡ get_or t (place link word used) 0
-      → e ≡ get_or cells (link % 4096 + field_at s (at + used) (link / 4096)) 0
-  step_is t q e h = h ∙ (λ j. get_or (q j) (place_is j) 0)
+  pub step_is : (e : ℕ) → e ≡ get_or cells (place link word used) 0 → e ≡ get_or cells (link % 4096 + field_at s (at + used) (link / 4096)) 0
+  step_is e h = h ∙ ap (λ (i : ℕ). get_or cells i 0) place_is
 
 pub first-at : (table : ℕ) (s : List ℕ) (at link : ℕ) → link ≡ root_of table → Stands table s at link 0
 first-at table s at link e = subst (λ (l : ℕ). Stands table s at l 0) (sym e) (stands_first table s at)
@@ -54,19 +51,19 @@ flagged_at e i q h = ap (λ (c : ℕ). c / 4096 % 2) q ∙ flag_at i (omega (ari
 
 -- ---- what was found in a word, of bytes that it has ahead
 module _ {link word leaf used : ℕ} (f : FoundIn link word leaf used) (h : word < 2 ^ 64) (s : List ℕ) (p : ℕ) (a : Ahead word s p) where
-  pub found_code : (code : ℕ) → link ≡ root_of code → decode (held code) (bits s p 57) ≡ Coded (leaf % 256) used
+  pub found_code : (code : ℕ) → link ≡ root_of code → decode (held code) (bits s p 57) ≡ Ok (taken (leaf % 256) used)
   found_code code is = ap (decode (held code)) (bits-ahead word s p h a) ∙ f.reads code is
 
   -- a pair, whose numbers stand after its codeword
   pub pair_found : {table width : ℕ} → TableAs table link width → (x y : ℤ) (u : ℕ)
-      → Owns (two_of width (leaf / 16 % 16) (leaf % 16)) (Two x y u) (NoPair PairOverrun) s (p + used) u
-      → Owns (pair_of word_of table) (Two x y (used + u)) (NoPair PairOverrun) s p (used + u)
+      → Owns (two_of width (leaf / 16 % 16) (leaf % 16)) (Ok (taken (x, y) u)) (Err PairOverrun) s (p + used) u
+      → Owns (pair_of word_of table) (Ok (taken (x, y) (used + u))) (Err PairOverrun) s p (used + u)
   pair_found {table} {width} k x y u o =
       let high : leaf / 16 % 16 ≡ leaf % 256 / 16 = omega arith in
       let low : leaf % 16 ≡ leaf % 256 % 16 = omega arith in
       pair-owns table (leaf % 256) used u x y s p
       (word_owns table s p 57 (leaf % 256) used (known_word k.code table k.same (bits s p 57) _ (found_code k.code k.is)))
-      (subst (λ (f : List Bool → Pair). Owns f (Two x y u) (NoPair PairOverrun) s (p + used) u) (λ j. two_of (k.escape j) (high j) (low j)) o)
+      (subst (λ (f : List Bool → Pair). Owns f (Ok (taken (x, y) u)) (Err PairOverrun) s (p + used) u) (λ j. two_of (k.escape j) (high j) (low j)) o)
 
 -- no flag: neither value is 15
 none-fifteen : (a b : Bool) → 0 ≡ one (a || b) → (a ≡ false) × (b ≡ false)

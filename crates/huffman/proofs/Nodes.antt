@@ -1,5 +1,6 @@
 -- The flat table is the published codes, over the table number: one test, computed over the whole table, pushes each published list into its
 -- node, bit by bit; and what the test says of a node makes the cell that the next bits choose the reading of a codeword.
+use Rattle.std.specs.Prelude.{Ok, Err}
 use mathlib.Core.Path.{◌≡◌, refl, sym, ap, subst, ◌∙◌}
 use mathlib.Core.Bool.{Bool, true, false, ◌&&◌, ◌||◌}
 use mathlib.Core.List.{List, [], ◌∷◌}
@@ -15,10 +16,8 @@ use Rattle.standard.specs.ToldLaws.{never, both_of}
 use Rattle.standard.specs.RowsLaws.{every, every-at}
 use Rattle.standard.specs.Bits.{bit_at, bits, one, field_at, value, value_from}
 use Rattle.standard.specs.BitsLaws.{field_at_add, field_at_one, field_at_lt}
-use Rattle.standard.specs.Codes.{Entry, decode, low_bits, pair, quad, silent, table1, table2, table3, table5, table6, table7, table8, table9, table10, table11, table12, table13, table15, table16, table24, table_a, table_b, codes}
+use Rattle.standard.specs.Codes.{Entry, decode, low_bits, pair, quad, silent, table1, table2, table3, table5, table6, table7, table8, table9, table10, table11, table12, table13, table15, table16, table24, table_a, table_b, codes, taken, Codeword}
 use Rattle.standard.proofs.CodesLaws.{after, inner, lone, more, decode-bit, decode-leaf}
-use Rattle.standard.specs.declared.Codeword.{Codeword}
-use Rattle.standard.specs.declared.Codeword.TheVariants.{Coded, Cut, Alien}
 use Rattle.huffman.specs.Cells.{roots, silent_link, size, cells}
 use Rattle.huffman.specs.Found.{has_fifteen}
 use Rattle.huffman.specs.Signed.{with_signs, spread, branch, held_codes, held}
@@ -90,27 +89,23 @@ flag_at i h =
 -- ---- what the test says of the cell that the next bits choose
 -- u bits were used before
 unfoldable pub spent : ℕ → Codeword → Codeword
-spent u (Coded v n) = Coded v (u + n)
-spent u Cut = Cut
-spent u Alien = Alien
+spent u (Ok c) = Ok (taken c.value (u + c.used))
+spent u (Err why) = Err why
 
 spent-none : (c : Codeword) → spent 0 c ≡ c
 unfolding spent
-spent-none (Coded v n) = ap (Coded v) (zero-add n)
-spent-none Cut = refl
-spent-none Alien = refl
+spent-none (Ok c) = ap (λ (n : ℕ). Ok (taken c.value n)) (zero-add c.used)
+spent-none (Err why) = refl
 
 more-spent : (u : ℕ) (c : Codeword) → more (spent u c) ≡ spent (suc u) c
 unfolding spent more
-more-spent u (Coded v n) = let p : suc (u + n) ≡ suc u + n = omega arith in ap (Coded v) p
-more-spent u Cut = refl
-more-spent u Alien = refl
+more-spent u (Ok c) = let p : suc (u + c.used) ≡ suc u + c.used = omega arith in ap (λ (n : ℕ). Ok (taken c.value n)) p
+more-spent u (Err why) = refl
 
 spent-spent : (a b : ℕ) (c : Codeword) → spent a (spent b c) ≡ spent (a + b) c
 unfolding spent
-spent-spent a b (Coded v n) = let p : a + (b + n) ≡ a + b + n = omega arith in ap (Coded v) p
-spent-spent a b Cut = refl
-spent-spent a b Alien = refl
+spent-spent a b (Ok c) = let p : a + (b + c.used) ≡ a + b + c.used = omega arith in ap (λ (n : ℕ). Ok (taken c.value n)) p
+spent-spent a b (Err why) = refl
 
 Leaf : ℕ → ℕ → List Entry → Type 0
 Leaf c d es = (32768 ≤ c) × (c / 256 % 8 ≡ d) × (lone (c % 256) es ≡ true)
@@ -137,7 +132,7 @@ flat_at P (suc k) d cs es t j h =
 
 -- the cell c, chosen by the k bits at a place, d bits of its node being used before: a leaf is the codeword, a link is the code of what is left
 record Chosen (P : ℕ → List Entry → Bool) (c d k : ℕ) (es : List Entry) (s : List ℕ) (at n : ℕ) : Type 0 where
-  leaf : 32768 ≤ c → (d ≤ c / 256 % 8) × (decode es (bits s at n) ≡ Coded (c % 256) (c / 256 % 8 - d))
+  leaf : 32768 ≤ c → (d ≤ c / 256 % 8) × (decode es (bits s at n) ≡ Ok (taken (c % 256) (c / 256 % 8 - d)))
   link : c < 32768 → (r : List Entry) × (P c r ≡ true) × (decode es (bits s at n) ≡ spent k (decode r (bits s (at + k) (n - k))))
 
 -- the first of the bits
@@ -153,7 +148,7 @@ module _ (P : ℕ → List Entry → Bool) (d k : ℕ) (es : List Entry) (s : Li
         leaf = λ g.
             let p = h.leaf g in
             let q : suc (c / 256 % 8 - suc d) ≡ c / 256 % 8 - d = omega (arith, p.0) in
-            (omega (arith, p.0), bit_first x b ∙ ap more p.1 ∙ ap (Coded (c % 256)) q);
+            (omega (arith, p.0), bit_first x b ∙ ap more p.1 ∙ ap (λ (n : ℕ). Ok (taken (c % 256) n)) q);
         link = λ g.
             let p = h.link g in
             let r = p.0 in
@@ -215,7 +210,7 @@ leaves P k d cs es s at n t =
     let c = get_or cs (field_at s at k) 0 in
     let z : 0 ≡ c / 256 % 8 - d = omega (arith, l.1) in
     record {
-      leaf = λ g. (omega (arith, l.1), decode-leaf (c % 256) es (bits s at n) l.2 ∙ ap (Coded (c % 256)) z);
+      leaf = λ g. (omega (arith, l.1), decode-leaf (c % 256) es (bits s at n) l.2 ∙ ap (λ (n : ℕ). Ok (taken (c % 256) n)) z);
       link = λ g. absurd (omega (arith, l.0));
     }
 
@@ -328,10 +323,10 @@ module _ (table : ℕ) (s : List ℕ) (at link used : ℕ) (w : Stands table s a
       }
 
   pub stands_end : (e : ℕ) → e ≡ get_or cells (link % 4096 + field_at s (at + used) (link / 4096)) 0 → 32768 ≤ e
-      → decode (held table) (bits s at 57) ≡ Coded (e % 256) (used + e / 256 % 8)
+      → decode (held table) (bits s at 57) ≡ Ok (taken (e % 256) (used + e / 256 % 8))
   unfolding spent
   stands_end e q h =
       let g : 32768 ≤ cell = omega (arith, q) in
       let p = next.leaf g in
       let z : cell / 256 % 8 - 0 ≡ cell / 256 % 8 = omega arith in
-      w.reads ∙ ap (spent used) (p.1 ∙ ap (Coded (cell % 256)) z) ∙ (λ j. Coded (sym q j % 256) (used + sym q j / 256 % 8))
+      w.reads ∙ ap (spent used) (p.1 ∙ ap (λ (n : ℕ). Ok (taken (cell % 256) n)) z) ∙ (λ j. Ok (taken (sym q j % 256) (used + sym q j / 256 % 8)))

@@ -1,4 +1,5 @@
 -- Pairs read one after the other with no look at where their bits end: one test after the last of them tells whether they all end within.
+use Rattle.std.specs.Prelude.{Ok, Err}
 use mathlib.Core.Path.{◌≡◌, refl, sym, ap, subst, ◌∙◌}
 use mathlib.Core.Bool.{Bool}
 use mathlib.Core.List.{List, [], ◌∷◌, ◌++◌}
@@ -13,11 +14,9 @@ use native.Mathlib.Numerals.{add-one}
 use Rattle.standard.specs.ToldLaws.{picked, passed}
 use Rattle.standard.specs.Bits.{bits}
 use Rattle.standard.specs.BitsLaws.{drop_bits}
-use Rattle.standard.specs.Codes.{word_of}
-use Rattle.standard.specs.Numbers.{halted, got, prepend, then_pairs, pairs, pair_of, table_at}
+use Rattle.standard.specs.Codes.{word_of, taken}
+use Rattle.standard.specs.Numbers.{halted, got, prepend, then_pairs, pairs, pair_of, table_at, Pair}
 use Rattle.standard.specs.declared.Refusal.TheVariants.{PairOverrun}
-use Rattle.standard.specs.declared.Pair.{Pair}
-use Rattle.standard.specs.declared.Pair.TheVariants.{Two, NoPair}
 use Rattle.huffman.specs.Owns.{Owns}
 use Rattle.huffman.specs.Run.{Run, ran, next, RunOn, PairsRun}
 
@@ -27,14 +26,14 @@ module _ (table : ℕ → ℕ) (s : List ℕ) where
   run_on (next x y u o r) = omega (arith, run_on r)
 
   -- the first pair is read, or is not
-  first_read : (k at n w u : ℕ) (x y : ℤ) → pair_of word_of (table (2 * k)) (bits s at w) ≡ Two x y u
+  first_read : (k at n w u : ℕ) (x y : ℤ) → pair_of word_of (table (2 * k)) (bits s at w) ≡ Ok (taken (x, y) u)
       → pairs word_of table k (suc n) (bits s at w) ≡ prepend (x ∷ y ∷ []) (pairs word_of table (suc k) n (bits s (at + u) (w - u)))
   unfolding pairs then_pairs
   first_read k at n w u x y e =
       ap (λ (p : Pair). then_pairs p (λ (i : ℕ). pairs word_of table (suc k) n (drop i (bits s at w)))) e
       ∙ ap (λ (b : List Bool). prepend (x ∷ y ∷ []) (pairs word_of table (suc k) n b)) (drop_bits u s at w)
 
-  first-not : (k at n w : ℕ) → pair_of word_of (table (2 * k)) (bits s at w) ≡ NoPair PairOverrun
+  first-not : (k at n w : ℕ) → pair_of word_of (table (2 * k)) (bits s at w) ≡ Err PairOverrun
       → pairs word_of table k (suc n) (bits s at w) ≡ halted PairOverrun
   unfolding pairs then_pairs
   first-not k at n w e = ap (λ (p : Pair). then_pairs p (λ (i : ℕ). pairs word_of table (suc k) n (drop i (bits s at w)))) e
@@ -63,13 +62,13 @@ module _ (table : ℕ → ℕ) (s : List ℕ) where
 
   -- one pair more
   pub run_more : {k at n e : ℕ} {vs : List ℤ} → Run table s k at n vs e → (x y : ℤ) (u : ℕ)
-      → Owns (pair_of word_of (table (2 * (k + n)))) (Two x y u) (NoPair PairOverrun) s e u → Run table s k at (suc n) (vs ++ x ∷ y ∷ []) (e + u)
+      → Owns (pair_of word_of (table (2 * (k + n)))) (Ok (taken (x, y) u)) (Err PairOverrun) s e u → Run table s k at (suc n) (vs ++ x ∷ y ∷ []) (e + u)
   run_more (ran {k = k} {at = at}) x y u o =
       let p : k + 0 ≡ k = omega arith in
-      next x y u (subst (λ (i : ℕ). Owns (pair_of word_of (table (2 * i))) (Two x y u) (NoPair PairOverrun) s at u) p o) ran
+      next x y u (subst (λ (i : ℕ). Owns (pair_of word_of (table (2 * i))) (Ok (taken (x, y) u)) (Err PairOverrun) s at u) p o) ran
   run_more (next {k = k} {n = n} {e = e} a b v p r) x y u o =
       let q : k + suc n ≡ suc k + n = omega arith in
-      next a b v p (run_more r x y u (subst (λ (i : ℕ). Owns (pair_of word_of (table (2 * i))) (Two x y u) (NoPair PairOverrun) s e u) q o))
+      next a b v p (run_more r x y u (subst (λ (i : ℕ). Owns (pair_of word_of (table (2 * i))) (Ok (taken (x, y) u)) (Err PairOverrun) s e u) q o))
 
 -- ---- two stores
 two_stores : (l : List ℤ) (i : ℕ) (x y : ℤ) → set (set l i x) (i + 1) y ≡ sets l i (x ∷ y ∷ [])
@@ -102,7 +101,7 @@ pub run-begin : (table : ℕ) (s : List ℕ) (start from : ℕ) (out : List ℤ)
 run-begin table s start from out l = record { long = l; near = omega arith; kept = refl; runs = λ tables begin same r. r }
 
 module _ {table : ℕ} {s : List ℕ} {start from k at : ℕ} {out₀ out : List ℤ} (f : RunOn table s start from k out₀ out at) (after : from ≤ k)
-    (x y : ℤ) (u : ℕ) (room : 2 * k + 2 ≤ 576) (few : u ≤ 47) (o : Owns (pair_of word_of table) (Two x y u) (NoPair PairOverrun) s at u) where
+    (x y : ℤ) (u : ℕ) (room : 2 * k + 2 ≤ 576) (few : u ≤ 47) (o : Owns (pair_of word_of table) (Ok (taken (x, y) u)) (Err PairOverrun) s at u) where
   pub run-turn : RunOn table s start from (k + 1) out₀ (set (set out (2 * k) x) (2 * k + 1) y) (at + u)
   run-turn =
       let p : 2 * k + 2 ≡ 2 * (k + 1) = omega arith in
@@ -116,7 +115,7 @@ module _ {table : ℕ} {s : List ℕ} {start from k at : ℕ} {out₀ out : List
             ∙ drop-on (2 * k) (2 * k + 2) out out₀ (omega arith) f.kept ∙ ap (λ (n : ℕ). drop n out₀) p;
         runs = λ tables begin same r.
             let here : 0 + k ≡ k = omega arith in
-            let own = subst (λ (t : ℕ). Owns (pair_of word_of t) (Two x y u) (NoPair PairOverrun) s at u)
+            let own = subst (λ (t : ℕ). Owns (pair_of word_of t) (Ok (taken (x, y) u)) (Err PairOverrun) s at u)
             (sym (ap (λ (n : ℕ). tables (2 * n)) here ∙ same k after (omega arith))) o in
             subst (λ (n : ℕ). Run tables s 0 begin n (take (2 * (k + 1)) stored) (at + u)) q
             (subst (λ (vs : List ℤ). Run tables s 0 begin (suc k) vs (at + u))

@@ -1,5 +1,6 @@
 -- Why a slot's pairs and quads together leave what the definition says: what was read stands first, behind it stand the zeros that stood
 -- there before, and that is the padded whole.
+use Rattle.std.specs.Prelude.{Result, Ok, Err}
 use mathlib.Core.Path.{◌≡◌, refl, sym, ap, ◌∙◌, subst}
 use mathlib.Core.Bool.{Bool}
 use mathlib.Core.List.{List, [], ◌∷◌, ◌++◌}
@@ -10,7 +11,6 @@ use native.Mathlib.Omega.{arith}
 use lib.IntN.{ℤ, pos}
 use lib.ListN.{length, take, drop, replicate, take-append-drop}
 use lib.Seq.{paste, length-take-le}
-use Rattle.standard.specs.Told.{told}
 use Rattle.standard.specs.Bits.{bits, between}
 use Rattle.standard.specs.Codes.{word_of}
 use Rattle.standard.specs.Numbers.{Numbers, halted, got, prepend, quad_table, regions_of, table_at, pairs, quads, then_rest, numbers_by, quiet, numbers_of, padded}
@@ -25,16 +25,14 @@ use Rattle.standard.specs.declared.Regions.{Regions}
 use Rattle.huffman.specs.Slot.{count_of, numbers_after}
 use Rattle.huffman.specs.Runs.{Filled, Says, NumbersRead}
 use Rattle.huffman.specs.Run.{PairsRun}
-use Rattle.huffman.specs.declared.HuffmanAnswer.{HuffmanAnswer}
-use Rattle.huffman.specs.declared.HuffmanAnswer.TheVariants.{Counted, Uncounted}
 use Rattle.huffman.proofs.Running.{drop-on, run-whole, run_short}
 
 -- ---- pairs, then quads
 says_on : (q q' : Numbers) (from : ℕ) (out₀ out₁ out : List ℤ) → q ≡ q' → drop from out₁ ≡ drop from out₀
-    → (a : HuffmanAnswer) → Says q' from out₁ out a → Says q 0 out₀ out a
+    → (a : Result ℕ Refusal) → Says q' from out₁ out a → Says q 0 out₀ out a
 unfolding Says
-says_on q q' from out₀ out₁ out e k (Uncounted why) f = e ∙ f
-says_on q q' from out₀ out₁ out e k (Counted n) f = record {
+says_on q q' from out₀ out₁ out e k (Err why) f = e ∙ f
+says_on q q' from out₀ out₁ out e k (Ok n) f = record {
   low = omega arith;
   high = f.high;
   gave = record { rest = f.gave.rest; same = e ∙ f.gave.same };
@@ -63,7 +61,7 @@ module _ (rate : SampleRate) (r : SlotRecord) (s : List ℕ) (at e : ℕ) (withi
       ∙ ap (λ (m : ℕ). then_rest word_of (quad_table r.count1table_select) m (pairs word_of tables 0 m (between s at e))) (sym hn)
 
   -- one of them does not end within the bits, and with it the slot is refused, with bits and without
-  pub pairs-over : e < place → NumbersRead (numbers_of word_of rate r (between s at e)) 0 out₀ out₁ (Uncounted PairOverrun)
+  pub pairs-over : e < place → NumbersRead (numbers_of word_of rate r (between s at e)) 0 out₀ out₁ (Err PairOverrun)
   unfolding Says then_rest quiet between
   pairs-over h =
       let same = after-pairs ∙ ap quads_by (run_short tables s p.run (e - at) (omega arith)) in
@@ -93,7 +91,7 @@ module _ (rate : SampleRate) (r : SlotRecord) (s : List ℕ) (at e : ℕ) (withi
           ∙ (λ j. (read_none.0 ∙ sym (take-replicate (2 * n) 576 (pos 0) (omega arith)) ∙ ap (take (2 * n)) (sym zeros)) j ++ p.kept j)
           ∙ take-append-drop (2 * n) out₀
 
-      pub none_read : NumbersRead (numbers_of word_of rate r (between s at e)) 0 out₀ out₁ (Counted 0)
+      pub none_read : NumbersRead (numbers_of word_of rate r (between s at e)) 0 out₀ out₁ (Ok 0)
       unfolding Says
       none_read = record {
         long = p.long;
@@ -111,7 +109,7 @@ module _ (rate : SampleRate) (r : SlotRecord) (s : List ℕ) (at e : ℕ) (withi
       }
 
     -- then the quads
-    pub quads-read : at < e → (c : Bool) (out : List ℤ) (a : HuffmanAnswer) → c ≡ r.count1table_select
+    pub quads-read : at < e → (c : Bool) (out : List ℤ) (a : Result ℕ Refusal) → c ≡ r.count1table_select
         → NumbersRead (prepend (take (2 * n) out₁) (quads word_of (quad_table c) ((576 - 2 * n) / 4) (between s place e))) (2 * n) out₁ out a
         → NumbersRead (numbers_of word_of rate r (between s at e)) 0 out₀ out a
     unfolding then_rest
@@ -131,11 +129,11 @@ drop-replicate zero n z = rw sub-zero
 drop-replicate (suc k) zero z = rw zero-sub
 drop-replicate (suc k) (suc n) z = let p : n - k ≡ suc n - suc k = omega arith in drop-replicate k n z ∙ ap (λ (m : ℕ). replicate m z) p
 
-pub whole-halted : (q : Numbers) (out₀ out : List ℤ) (a : HuffmanAnswer) (why : Refusal) → NumbersRead q 0 out₀ out a → a ≡ Uncounted why → q ≡ halted why
+pub whole-halted : (q : Numbers) (out₀ out : List ℤ) (a : Result ℕ Refusal) (why : Refusal) → NumbersRead q 0 out₀ out a → a ≡ Err why → q ≡ halted why
 unfolding Says
 whole-halted q out₀ out a why f e = subst (Says q 0 out₀ out) e f.says
 
-module _ (q : Numbers) (out : List ℤ) (a : HuffmanAnswer) (n : ℕ) (f : NumbersRead q 0 (replicate 576 (pos 0)) out a) (e : a ≡ Counted n) where
+module _ (q : Numbers) (out : List ℤ) (a : Result ℕ Refusal) (n : ℕ) (f : NumbersRead q 0 (replicate 576 (pos 0)) out a) (e : a ≡ Ok n) where
   filled : Filled q 0 (replicate 576 (pos 0)) out n
   unfolding Says
   filled = subst (Says q 0 (replicate 576 (pos 0)) out) e f.says
@@ -151,10 +149,10 @@ module _ (q : Numbers) (out : List ℤ) (a : HuffmanAnswer) (n : ℕ) (f : Numbe
       ∙ take-append-drop n out
 
   -- so what is told of q, and of the lent numbers d that became d', is what was read and copied
-  pub whole-read : (d d' : List ℤ) → d' ≡ paste d 0 out 576 → (told n ≡ count_of q) × (d' ≡ numbers_after q d)
+  pub whole-read : (d d' : List ℤ) → d' ≡ paste d 0 out 576 → (Ok n ≡ count_of q) × (d' ≡ numbers_after q d)
   unfolding count_of numbers_after
   whole-read d d' g = (
-    sym (ap count_of filled.gave.same ∙ ap told count_is),
+    sym (ap count_of filled.gave.same ∙ ap Ok count_is),
     g ∙ sym (ap (λ (x : Numbers). numbers_after x d) filled.gave.same ∙ ap (λ (l : List ℤ). paste d 0 l 576) padded-is),
   )
 
@@ -166,7 +164,7 @@ from_least s at e =
       | no h ↦ let p : min at e ≡ at = omega arith in ap (λ (k : ℕ). between s k e) p
     ]
 
-pub least-read : (rate : SampleRate) (r : SlotRecord) (s : List ℕ) (at e k : ℕ) (out₀ out : List ℤ) (a : HuffmanAnswer) → k ≡ min at e
+pub least-read : (rate : SampleRate) (r : SlotRecord) (s : List ℕ) (at e k : ℕ) (out₀ out : List ℤ) (a : Result ℕ Refusal) → k ≡ min at e
     → NumbersRead (numbers_of word_of rate r (between s k e)) 0 out₀ out a → NumbersRead (numbers_of word_of rate r (between s at e)) 0 out₀ out a
 least-read rate r s at e k out₀ out a h f =
     subst (λ (b : List Bool). NumbersRead (numbers_of word_of rate r b) 0 out₀ out a) (ap (λ (n : ℕ). between s n e) h ∙ from_least s at e) f

@@ -1,9 +1,8 @@
 -- What a lookup in the flat table finds of a word.
-use Rattle.std.specs.Prelude.{◌≡◌, Bool, ◌||◌, List, ℕ, ◌/◌, ◌%◌, ◌≤◌, ◌<◌, eqb, get_or, take}
+use Rattle.std.specs.Prelude.{Ok, ◌≡◌, Bool, ◌||◌, List, ℕ, ◌/◌, ◌%◌, ◌≤◌, ◌<◌, eqb, get_or, take}
 use Rattle.standard.specs.Bits.{one, bits}
 use Rattle.standard.specs.Written.{bits_of, pack}
-use Rattle.standard.specs.Codes.{decode, published, escape_width}
-use Rattle.standard.specs.declared.Codeword.TheVariants.{Coded}
+use Rattle.standard.specs.Codes.{decode, published, escape_width, taken}
 use Rattle.huffman.specs.Cells.{roots, silent_link, cells}
 use Rattle.huffman.specs.Signed.{held}
 
@@ -24,7 +23,7 @@ abbrev pub has_fifteen : ℕ → Bool
 has_fifteen v = eqb (v / 16) 15 || eqb (v % 16) 15
 
 pub record FoundIn (link word leaf used : ℕ) : Type 0 where
-  pub reads : (code : ℕ) → link ≡ root_of code → decode (held code) (bits (bytes_of word) 0 57) ≡ Coded (leaf % 256) used
+  pub reads : (code : ℕ) → link ≡ root_of code → decode (held code) (bits (bytes_of word) 0 57) ≡ Ok (taken (leaf % 256) used)
   pub flagged : leaf / 4096 % 2 ≡ one (has_fifteen (leaf % 256))
   pub small : leaf < 65536
   pub few : used ≤ 19

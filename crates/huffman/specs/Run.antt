@@ -1,16 +1,15 @@
 -- Pairs read one after the other with no look at where their bits end.
-use Rattle.std.specs.Prelude.{◌≡◌, List, [], ◌∷◌, ℕ, suc, ◌+◌, ◌-◌, ◌*◌, ◌≤◌, ◌<◌, ℤ, length, take, drop}
+use Rattle.std.specs.Prelude.{Ok, Err, ◌≡◌, List, [], ◌∷◌, ℕ, suc, ◌+◌, ◌-◌, ◌*◌, ◌≤◌, ◌<◌, ℤ, length, take, drop}
 use Rattle.standard.specs.Sizes.{per_slot}
-use Rattle.standard.specs.Codes.{word_of}
+use Rattle.standard.specs.Codes.{word_of, taken}
 use Rattle.standard.specs.Numbers.{pair_of}
 use Rattle.standard.specs.declared.Refusal.TheVariants.{PairOverrun}
-use Rattle.standard.specs.declared.Pair.TheVariants.{Two, NoPair}
 use Rattle.huffman.specs.Owns.{Owns}
 
 -- n pairs from the k-th on, from a place on up to the place e, whatever their bits are: the numbers
 pub data Run (table : ℕ → ℕ) (s : List ℕ) : ℕ → ℕ → ℕ → List ℤ → ℕ → Type 0 where
   ran : {k at : ℕ} → Run table s k at 0 [] at
-  next : {k at n e : ℕ} {vs : List ℤ} (x y : ℤ) (u : ℕ) → Owns (pair_of word_of (table (2 * k))) (Two x y u) (NoPair PairOverrun) s at u
+  next : {k at n e : ℕ} {vs : List ℤ} (x y : ℤ) (u : ℕ) → Owns (pair_of word_of (table (2 * k))) (Ok (taken (x, y) u)) (Err PairOverrun) s at u
       → Run table s (suc k) (at + u) n vs e → Run table s k at (suc n) (x ∷ y ∷ vs) e
 
 -- the pairs of one table from the number `from` up to before `to`, which start at the place `start`, lead any run that ends there on to the place e; out₀ and

@@ -1,10 +1,9 @@
 -- What is left in the numbers that are lent for a slot. q is what is read by the definition, out₀ and out are
 -- the numbers before and after it.
-use Rattle.std.specs.Prelude.{◌≡◌, Bool, List, ℕ, ◌≤◌, ℤ, length, take, drop}
+use Rattle.std.specs.Prelude.{◌≡◌, Bool, List, ℕ, ◌≤◌, ℤ, Result, Ok, Err, length, take, drop}
 use Rattle.standard.specs.Sizes.{per_slot}
 use Rattle.standard.specs.Numbers.{Numbers, halted, got}
-use Rattle.huffman.specs.declared.HuffmanAnswer.{HuffmanAnswer}
-use Rattle.huffman.specs.declared.HuffmanAnswer.TheVariants.{Counted, Uncounted}
+use Rattle.standard.specs.declared.Refusal.{Refusal}
 
 -- q was read up to the numbers vs, whichever bits are left
 pub record Gave (q : Numbers) (vs : List ℤ) : Type 0 where
@@ -18,10 +17,10 @@ pub record Filled (q : Numbers) (from : ℕ) (out₀ out : List ℤ) (n : ℕ) :
   pub gave : Gave q (take n out)
   pub kept : drop n out ≡ drop n out₀
 
-unfoldable pub Says : Numbers → ℕ → List ℤ → List ℤ → HuffmanAnswer → Type 0
-Says q from out₀ out (Uncounted r) = q ≡ halted r
-Says q from out₀ out (Counted n) = Filled q from out₀ out n
+unfoldable pub Says : Numbers → ℕ → List ℤ → List ℤ → Result ℕ Refusal → Type 0
+Says q from out₀ out (Err r) = q ≡ halted r
+Says q from out₀ out (Ok n) = Filled q from out₀ out n
 
-pub record NumbersRead (q : Numbers) (from : ℕ) (out₀ out : List ℤ) (r : HuffmanAnswer) : Type 0 where
+pub record NumbersRead (q : Numbers) (from : ℕ) (out₀ out : List ℤ) (r : Result ℕ Refusal) : Type 0 where
   pub long : length out ≡ per_slot
   pub says : Says q from out₀ out r

@@ -1,14 +1,13 @@
 -- What a slot's numbers come to where d numbers are lent for them, and what is answered and left in the lent numbers.
-use Rattle.std.specs.Prelude.{Bool, List, ℕ, ltb, ℤ, length}
+use Rattle.std.specs.Prelude.{Bool, List, ℕ, ltb, ℤ, Result, Ok, Err, length}
 use Rattle.std.proofs.Math.Seq.{paste}
 use Rattle.standard.specs.Sizes.{per_slot, most_big_values}
-use Rattle.standard.specs.Told.{Told, told, pick, refused}
+use Rattle.standard.specs.Told.{pick}
 use Rattle.standard.specs.Numbers.{Reader, Numbers, halted, got, numbers_of, padded}
 use Rattle.standard.specs.declared.SampleRate.{SampleRate}
 use Rattle.standard.specs.declared.SlotRecord.{SlotRecord}
+use Rattle.standard.specs.declared.Refusal.{Refusal}
 use Rattle.standard.specs.declared.Refusal.TheVariants.{UnfitMemory, TooManyPairs}
-use Rattle.huffman.specs.declared.HuffmanAnswer.{HuffmanAnswer}
-use Rattle.huffman.specs.declared.HuffmanAnswer.TheVariants.{Counted, Uncounted}
 
 -- 576 numbers are asked for, and no more pairs than they hold
 unfoldable pub slot_numbers : Reader → SampleRate → SlotRecord → List Bool → List ℤ → Numbers
@@ -16,14 +15,10 @@ slot_numbers word rate r b d =
     pick (ltb (length d) per_slot) (halted UnfitMemory)
     (pick (ltb most_big_values r.big_values) (halted TooManyPairs) (numbers_of word rate r b))
 
--- what the answer says: the number of a refusal, or how many numbers were read
-abbrev pub told_count : HuffmanAnswer → Told ℕ
-told_count (Counted n) = told n
-told_count (Uncounted r) = refused r
-
-unfoldable pub count_of : Numbers → Told ℕ
-count_of (halted r) = refused r
-count_of (got vs b) = told (length vs)
+-- how many numbers were read, or why they are refused
+unfoldable pub count_of : Numbers → Result ℕ Refusal
+count_of (halted r) = Err r
+count_of (got vs b) = Ok (length vs)
 
 -- the lent numbers afterwards: of a refused slot as they were
 unfoldable pub numbers_after : Numbers → List ℤ → List ℤ

@@ -1,24 +1,14 @@
--- No two answers say the same; what a slot's numbers come to by how many numbers are lent and how many pairs its record has; and a refused slot
+-- What a slot's numbers come to by how many numbers are lent and how many pairs its record has; and a refused slot
 -- leaves the lent numbers as they were.
-use Rattle.std.specs.Prelude.{◌≡◌, Bool, List, ◌≤◌, ◌<◌, ℤ, length}
+use Rattle.std.specs.Prelude.{◌≡◌, Bool, List, ◌≤◌, ◌<◌, ℤ, Err, length}
 use Rattle.std.proofs.Common.{sym, ap, ◌∙◌, lt-ltb, le-ltb}
-use Rattle.standard.specs.ToldLaws.{clash, picked, passed}
-use Rattle.standard.proofs.RefusalsLaws.{one-reason}
+use Rattle.standard.specs.ToldLaws.{picked, passed}
 use Rattle.standard.specs.Numbers.{Reader, Numbers, halted, numbers_of}
 use Rattle.standard.specs.declared.SampleRate.{SampleRate}
 use Rattle.standard.specs.declared.SlotRecord.{SlotRecord}
 use Rattle.standard.specs.declared.Refusal.{Refusal}
 use Rattle.standard.specs.declared.Refusal.TheVariants.{UnfitMemory, TooManyPairs}
-use Rattle.huffman.specs.Slot.{slot_numbers, told_count, count_of, numbers_after}
-use Rattle.huffman.specs.declared.HuffmanAnswer.{HuffmanAnswer}
-use Rattle.huffman.specs.declared.HuffmanAnswer.TheVariants.{Counted, Uncounted}
-use Rattle.standard.specs.Told.{refused}
-
-pub one-count : (a b : HuffmanAnswer) → told_count a ≡ told_count b → a ≡ b
-one-count (Counted m) (Counted n) e = let p : m ≡ n = cc in ap Counted p
-one-count (Counted m) (Uncounted q) e = clash cc
-one-count (Uncounted r) (Counted n) e = clash cc
-one-count (Uncounted r) (Uncounted q) e = ap Uncounted (one-reason e)
+use Rattle.huffman.specs.Slot.{slot_numbers, count_of, numbers_after}
 
 module _ (word : Reader) (rate : SampleRate) (r : SlotRecord) (b : List Bool) (d : List ℤ) where
   pub slot_unfit : length d < 576 → slot_numbers word rate r b d ≡ halted UnfitMemory
@@ -33,6 +23,6 @@ module _ (word : Reader) (rate : SampleRate) (r : SlotRecord) (b : List Bool) (d
   unfolding slot_numbers
   slot_fits h k = passed (halted UnfitMemory) (le-ltb (length d) 576 h) ∙ passed (halted TooManyPairs) (le-ltb 288 r.big_values k)
 
-pub refused_as : (q : Numbers) (d : List ℤ) (why : Refusal) → q ≡ halted why → (refused why ≡ count_of q) × (d ≡ numbers_after q d)
+pub refused_as : (q : Numbers) (d : List ℤ) (why : Refusal) → q ≡ halted why → (Err why ≡ count_of q) × (d ≡ numbers_after q d)
 unfolding count_of numbers_after
 refused_as q d why e = (sym (ap count_of e), sym (ap (λ (x : Numbers). numbers_after x d) e))

@@ -1,11 +1,12 @@
 // A codeword in the flat table, some bits at a time.
-ghost use Rattle.std.specs.Prelude.{◌≡◌, ◌+◌, ◌-◌, ◌*◌, ◌/◌, ◌%◌, ◌≤◌, ◌<◌, ◌^◌, length, get_or};
+ghost use Rattle.std.specs.Prelude.{◌≡◌, ◌+◌, ◌-◌, ◌*◌, ◌/◌, ◌%◌, ◌≤◌, ◌<◌, ◌^◌, get_or};
 ghost use Rattle.standard.specs.Codes.{published};
-ghost use Rattle.huffman.specs.Cells.{cells};
+ghost use Rattle.huffman.specs.Cells.{size, cells};
 ghost use Rattle.huffman.specs.Found.{root_of, IsRoot, FoundIn};
 ghost use Rattle.huffman.specs.Signed.{held};
 
-use crate::flat::{CODES, SILENT, TABLES};
+use crate::flat::{CODES, SILENT, TABLES, cell};
+use standard::Taken;
 
 // A link is its node's width so many times, and its place.
 const WIDTHS: usize = 4096;
@@ -30,48 +31,41 @@ pub(crate) fn known(table: usize) -> usize
 }
 
 // The link of a code that is held.
-pub(crate) fn root(t: &[u16], code: usize) -> usize
-    requires { t.now ≡ cells }
+pub(crate) fn root(code: usize) -> usize
     ensures { result ≡ root_of code }
 {
     if code < CODES {
-        return t[code] as usize;
+        return cell(code) as usize;
     }
     SILENT
 }
 
 // The cell of a link's node that the bits of a word choose, the first so many of which are gone.
-fn chosen(t: &[u16], link: usize, word: u64, gone: usize) -> usize
-    requires { (gone < 64) × (0 < link / 4096) × (link / 4096 < 64) × (link % 4096 + (word * 2 ^ gone) % 2 ^ 64 / 2 ^ (64 - link / 4096) < length t.now) }
-    ensures { (result ≡ get_or t.now (link % 4096 + (word * 2 ^ gone) % 2 ^ 64 / 2 ^ (64 - link / 4096)) 0) × (result < 65536) }
+fn chosen(link: usize, word: u64, gone: usize) -> usize
+    requires { (gone < 64) × (0 < link / 4096) × (link / 4096 < 64) × (link % 4096 + (word * 2 ^ gone) % 2 ^ 64 / 2 ^ (64 - link / 4096) < size) }
+    ensures { (result ≡ get_or cells (link % 4096 + (word * 2 ^ gone) % 2 ^ 64 / 2 ^ (64 - link / 4096)) 0) × (result < 65536) }
 {
     let turned = word << gone;
     let k = (turned >> (64 - link / WIDTHS)) as usize;
-    t[link % WIDTHS + k] as usize
+    cell(link % WIDTHS + k) as usize
 }
 
-// What a lookup found: a leaf of the table, and how many bits its codeword has.
-#[derive(Clone, Copy)]
-pub(crate) struct Found {
-    pub leaf: usize,
-    pub used: usize,
-}
-
-// The codeword that a word starts with, whatever bits it has.
-pub(crate) fn find(t: &[u16], link: usize, word: u64) -> Found
-    requires { (t.now ≡ cells) × IsRoot link }
-    ensures { FoundIn link word result.leaf result.used }
+// The leaf of the codeword that a word starts with, whatever bits it has.
+pub(crate) fn find(link: usize, word: u64) -> Taken<usize>
+    requires { IsRoot link }
+    ensures { FoundIn link word result.value result.used }
 {
     let mut node = link;
     let mut used = 0usize;
-    let mut e = chosen(t, node, word, used);
+    let mut e = chosen(node, word, used);
+    // links are followed to a leaf, and none is counted
     while e < LEAF {
         used += node / WIDTHS;
         node = e;
-        e = chosen(t, node, word, used);
+        e = chosen(node, word, used);
     }
-    Found {
-        leaf: e,
+    Taken {
+        value: e,
         used: used + e / VALUES % LENGTHS,
     }
 }

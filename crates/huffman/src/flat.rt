@@ -1,6 +1,6 @@
 // The published codes as one table of cells. Printed by scripts/flat-table.
-ghost use Rattle.std.specs.Prelude.{◌≡◌};
-ghost use Rattle.huffman.specs.Cells.{cells};
+ghost use Rattle.std.specs.Prelude.{◌≡◌, ◌<◌, get_or};
+ghost use Rattle.huffman.specs.Cells.{size, cells};
 
 // The codes of so many tables are held, each under its table's number; after them those of the quads of table A and of B with their signs.
 pub(crate) const TABLES: usize = 34;
@@ -17,7 +17,7 @@ pub(crate) const SILENT: usize = 4132;
 // Where the numbers of quads stand, four cells each.
 pub(crate) const QUADS: usize = 2598;
 
-const CELLS: [u16; 2922] = [
+static CELLS: [u16; 2922] = [
     4132, 12326, 20526, 20560, 4132, 12402, 20620, 20658, 16636, 24884, 16778, 20974, 25180, 17106,
     4132, 25666, 26008, 26008, 26008, 26008, 26008, 26008, 26008, 26008, 30494, 30494, 30494,
     30494, 30494, 30494, 30494, 30494, 26770, 18642, 30946, 31126, 32768, 32768, 33553, 33537,
@@ -227,9 +227,11 @@ const CELLS: [u16; 2922] = [
     2, 2, 0, 2, 2, 2, 1, 2, 2, 2, 2,
 ];
 
-// The table, made once a slot and lent to lookups.
-pub(crate) fn flat() -> [u16; 2922]
-    ensures { result ≡ «cells» }
+// The cell at a place.
+#[tactic(auto, unfolding(crate::specs::Cells::cells))]
+pub(crate) fn cell(place: usize) -> u16
+    requires { place < size }
+    ensures { result ≡ get_or cells place 0 }
 {
-    CELLS
+    CELLS[place]
 }

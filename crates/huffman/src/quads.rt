@@ -5,13 +5,12 @@ ghost use Rattle.standard.specs.Sizes.{per_slot};
 ghost use Rattle.standard.specs.Bits.{between};
 ghost use Rattle.standard.specs.Codes.{published, word_of};
 ghost use Rattle.standard.specs.Numbers.{quad_table, prepend, quads};
-ghost use Rattle.huffman.specs.Cells.{cells};
+ghost use Rattle.huffman.specs.Cells.{size, cells};
 ghost use Rattle.huffman.specs.Runs.{NumbersRead};
-ghost use Rattle.huffman.specs.Signed.{with_signs, digit, held};
+ghost use Rattle.huffman.specs.Signed.{with_signs, digit, digits, held};
 
-use crate::HuffmanAnswer;
 use crate::find::{VALUES, find, root};
-use crate::flat::{QUADS, QUADS_OF_A, QUADS_OF_B};
+use crate::flat::{QUADS, QUADS_OF_A, QUADS_OF_B, cell};
 use crate::words::ahead;
 use standard::SLOT_NUMBERS;
 
@@ -29,56 +28,53 @@ pub(crate) fn quad_code(count1: bool) -> usize
 }
 
 // A number of a quad: its cell less 1.
-pub(crate) fn number_at(t: &[u16], i: usize) -> i32
-    requires { (i < length t.now) × (get_or t.now i 0 < 3) }
-    ensures { result ≡ digit (get_or t.now i 0) }
+fn number_at(i: usize) -> i32
+    requires { (i < size) × (get_or cells i 0 < 3) }
+    ensures { result ≡ digit (get_or cells i 0) }
 {
-    t[i] as i32 - 1
+    cell(i) as i32 - 1
 }
 
-// The four numbers of a quad's value.
-fn put_quad(t: &[u16], value: usize, i: usize, out: &mut [i32; SLOT_NUMBERS])
-    requires { (t.now ≡ cells) × (value < 81) × (i ≤ 572) × (length out.old ≡ per_slot) }
-    ensures { out.new ≡ sets out.old i
-        (digit (value / 27) ∷ digit (value / 9 % 3) ∷ digit (value / 3 % 3) ∷ digit (value % 3) ∷ []) }
+// The four numbers of a quad's value, into lent ones from the i-th on.
+pub(crate) fn put_quad(value: usize, i: usize, out: &mut [i32])
+    requires { (value < 81) × (i + 4 ≤ length out.old) × (i ≤ per_slot) }
+    ensures { out.new ≡ sets out.old i (digits value) }
 {
     let k = QUADS + 4 * value;
-    let v = number_at(t, k);
-    let w = number_at(t, k + 1);
-    let x = number_at(t, k + 2);
-    let y = number_at(t, k + 3);
-    out[i] = v;
-    out[i + 1] = w;
-    out[i + 2] = x;
-    out[i + 3] = y;
+    let v = number_at(k);
+    let w = number_at(k + 1);
+    let x = number_at(k + 2);
+    let y = number_at(k + 3);
+    out[i..i + 4].copy_from_slice(&[v, w, x, y]);
 }
 
-// Quads of table A, or of B, from the place `start` on, numbers from the position `from` on: as long as four fit and a quad ends.
+// Quads of table A, or of B, from the place `start` on, numbers from the position `from` on: as long as four fit and a quad ends. Answers how many numbers
+// there are then.
 pub(crate) fn read_quads(
-    t: &[u16],
     count1: bool,
     s: &[u8],
     start: usize,
     end: usize,
     from: usize,
     out: &mut [i32; SLOT_NUMBERS],
-) -> HuffmanAnswer
-    requires { (t.now ≡ cells) × (from ≤ per_slot) × (length out.old ≡ per_slot) × (start ≤ end) × (end < 2 ^ 32) }
+) -> u16
+    requires { (from ≤ per_slot) × (start ≤ end) × (end < 2 ^ 32) }
     ensures { NumbersRead
         (prepend (take from out.old) (quads word_of (quad_table count1) ((per_slot - from) / 4) (between s.now start end)))
-        from out.old out.new result }
+        from out.old out.new (Ok result) }
 {
-    let link = root(t, quad_code(count1));
+    let link = root(quad_code(count1));
     let mut at = start;
     let mut i = from;
+    // the place that is reached is the answer, which a `for` with a step would not tell
     while i <= LAST_QUAD {
-        let f = find(t, link, ahead(s, at));
+        let f = find(link, ahead(s, at));
         at += f.used;
         if end < at {
-            return HuffmanAnswer::Counted { count: i as u16 };
+            return i as u16;
         }
-        put_quad(t, f.leaf % VALUES, i, out);
+        put_quad(f.value % VALUES, i, out);
         i += 4;
     }
-    HuffmanAnswer::Counted { count: i as u16 }
+    i as u16
 }

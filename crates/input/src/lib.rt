@@ -3,10 +3,10 @@
 
 ghost use Rattle.std.specs.Prelude.{◌≡◌, ◌≤◌, length, take, drop};
 ghost use Rattle.std.specs.Io.KnownBytes.{Consumes, IsAtEnd};
-ghost use Rattle.input.specs.Held.{unread_of, taken_of, Slid, GotIn, GotFrom, ReadOn, FilledUp};
+ghost use Rattle.input.specs.Held.{unread_of, taken_of, Slid, ReadOn, FilledUp};
 ghost use Rattle.input.specs.declared.Input.TheVariants.{Ended};
 
-use lent_bytes::{least, slide};
+use lent_bytes::slide;
 use std::io::Read;
 
 // The unread bytes are those from `from` up to `end`.
@@ -16,7 +16,7 @@ pub struct Held {
     pub end: usize,
 }
 
-// What became of the input behind them: there may be more, it has ended, or it could not be read.
+// What became of the input behind them: there may be more, it has ended, or it could not be read. Three states, of which none is an absence.
 #[derive(Clone, Copy)]
 pub enum Input {
     Open,
@@ -24,119 +24,76 @@ pub enum Input {
     Failed,
 }
 
-#[derive(Clone, Copy)]
-pub struct Filled {
-    pub held: Held,
-    pub input: Input,
-}
-
-#[derive(Clone, Copy)]
-enum Got {
-    Bytes(usize),
-    Nothing,
-    Error,
-}
-
-// Nothing is held yet.
-pub fn blank() -> Held
-    ensures { (result.from ≡ 0) × (result.end ≡ 0) }
-{
-    Held { from: 0, end: 0 }
-}
-
-// The bytes that are still unread. Of a record that reaches beyond the lent bytes, those that are there.
-pub fn unread(bytes: &[u8], held: Held) -> &[u8]
-    ensures { result.now ≡ unread_of bytes.now held }
-{
-    let end = least(held.end, bytes.len());
-    let from = least(held.from, end);
-    &bytes[from..end]
-}
-
-// Takes n of the unread bytes as read, or all where there are fewer.
-pub fn taken(held: Held, n: usize) -> Held
-    ensures { result ≡ taken_of held n }
-{
-    let from = held.from;
-    let end = held.end;
-    if end <= from {
-        return Held { from: end, end };
+impl Held {
+    // Nothing is held yet.
+    pub fn blank() -> Held
+        ensures { (result.from ≡ 0) × (result.end ≡ 0) }
+    {
+        Held { from: 0, end: 0 }
     }
-    if end - from <= n {
-        return Held { from: end, end };
-    }
-    Held {
-        from: from + n,
-        end,
-    }
-}
 
-// The unread bytes moved to the front, so that there is room behind them.
-fn slid(bytes: &mut [u8], held: Held) -> Held
-    ensures { Slid bytes.old held result bytes.new }
-{
-    let end = least(held.end, bytes.len());
-    let from = least(held.from, end);
-    slide(bytes, from, end - from);
-    Held {
-        from: 0,
-        end: end - from,
+    // The bytes that are still unread. Of a record that reaches beyond the lent bytes, those that are there.
+    pub fn unread(self, bytes: &[u8]) -> &[u8]
+        ensures { result.now ≡ unread_of bytes.now self }
+    {
+        let end = self.end.min(bytes.len());
+        let from = self.from.min(end);
+        &bytes[from..end]
     }
-}
 
-fn read_once<R: Read>(reader: &mut R, bytes: &mut [u8]) -> Got
-    ensures within { GotIn (length bytes.old) result }
-    ensures source { GotFrom (R.remaining reader.old) (R.remaining reader.new) result bytes.new }
-{
-    match reader.read(bytes) {
-        Err(_) => Got::Error,
-        Ok(n) => {
-            if n == 0 {
-                return Got::Nothing;
+    // Takes n of the unread bytes as read, or all where there are fewer.
+    #[tactic(auto, unfolding(crate::specs::Held::taken_of))]
+    pub fn taken(self, n: usize) -> Held
+        ensures { result ≡ taken_of self n }
+    {
+        Held {
+            from: self.from.saturating_add(n).min(self.end),
+            end: self.end,
+        }
+    }
+
+    // The unread bytes moved to the front, so that there is room behind them.
+    fn slide(&mut self, bytes: &mut [u8])
+        ensures { Slid bytes.old self.old self.new bytes.new }
+    {
+        let end = self.end.min(bytes.len());
+        let from = self.from.min(end);
+        slide(bytes, from, end - from);
+        *self = Held {
+            from: 0,
+            end: end - from,
+        };
+    }
+
+    // Reads behind what is held until all of the lent bytes are filled, the input ends or a read fails.
+    fn read_on<R: Read>(&mut self, reader: &mut R, bytes: &mut [u8]) -> Input
+        requires { self.old.end ≤ length bytes.old }
+        ensures read { ReadOn bytes.old self.old self.new result bytes.new }
+        ensures source { Consumes (R.remaining reader.old) (R.remaining reader.new)
+            (drop self.old.end (take self.new.end bytes.new)) }
+        ensures ended { result ≡ Ended → IsAtEnd (R.remaining reader.new) }
+    {
+        // how far a turn goes is the reader's to say
+        while self.end < bytes.len() {
+            match reader.read(&mut bytes[self.end..]) {
+                Err(_) => return Input::Failed,
+                Ok(0) => return Input::Ended,
+                Ok(n) => self.end += n,
             }
-            Got::Bytes(n)
         }
+        Input::Open
     }
-}
 
-fn up_to(end: usize, input: Input) -> Filled
-    ensures { (result.held.from ≡ 0) × (result.held.end ≡ end) × (result.input ≡ input) }
-{
-    Filled {
-        held: Held { from: 0, end },
-        input,
+    // Slides the unread bytes to the front and reads behind them. Which bytes come is the reader's to say; the unread ones stay, and
+    // the input is told to be open only where all of the lent bytes are filled. Of a reader that says which bytes it has left, those behind
+    // the unread ones are its next, and it is told to have ended only where none is left.
+    pub fn fill<R: Read>(&mut self, reader: &mut R, bytes: &mut [u8]) -> Input
+        ensures filled { FilledUp bytes.old self.old self.new result bytes.new }
+        ensures source { Consumes (R.remaining reader.old) (R.remaining reader.new)
+            (drop (length (unread_of bytes.old self.old)) (unread_of bytes.new self.new)) }
+        ensures ended { result ≡ Ended → IsAtEnd (R.remaining reader.new) }
+    {
+        self.slide(bytes);
+        self.read_on(reader, bytes)
     }
-}
-
-// Reads behind the first n bytes until all of the lent bytes are filled, the input ends or a read fails.
-fn read_on<R: Read>(reader: &mut R, bytes: &mut [u8], n: usize) -> Filled
-    requires { n ≤ length bytes.old }
-    ensures read { ReadOn bytes.old n result bytes.new }
-    ensures source { Consumes (R.remaining reader.old) (R.remaining reader.new)
-        (drop n (take result.held.end bytes.new)) }
-    ensures ended { result.input ≡ Ended → IsAtEnd (R.remaining reader.new) }
-{
-    let mut end = n;
-    while end < bytes.len() {
-        match read_once(reader, &mut bytes[end..]) {
-            Got::Error => return up_to(end, Input::Failed),
-            Got::Nothing => return up_to(end, Input::Ended),
-            Got::Bytes(more) => end += more,
-        }
-    }
-    up_to(end, Input::Open)
-}
-
-// Slides the unread bytes to the front and reads behind them. Which bytes come is the reader's to say; the unread ones stay, and
-// the input is told to be open only where all of the lent bytes are filled. Of a reader that says which bytes it has left, those behind
-// the unread ones are its next, and it is told to have ended only where none is left.
-pub fn fill<R: Read>(reader: &mut R, bytes: &mut [u8], held: Held) -> Filled
-    ensures filled { FilledUp bytes.old held result bytes.new }
-    ensures source { Consumes (R.remaining reader.old) (R.remaining reader.new)
-        (drop (length (unread_of bytes.old held)) (unread_of bytes.new result.held)) }
-    ensures ended { result.input ≡ Ended → IsAtEnd (R.remaining reader.new) }
-{
-    let c = slid(&mut *bytes, held);
-    let end = c.end;
-    read_on(reader, bytes, end)
 }

@@ -6,8 +6,8 @@ use Prim.Native.Nat.{ℕ, zero, suc, ◌+◌, ◌-◌, ◌/◌, ◌%◌, ◌^◌
 use native.Mathlib.Omega.{arith}
 use native.Mathlib.Nat.{div-lt_iff_lt-mul, pow-suc}
 use borrow.Author.Tests.{le-ltb, lt-ltb}
-use lib.ListN.{length, take, drop, set, length-set, length-drop, drop_of_length-le}
-use lib.Seq.{drop-cons, drop-set-lt, get_or-set_same, take_all}
+use lib.ListN.{length, drop, set, length-set, drop_of_length-le}
+use lib.Seq.{drop-cons, drop-set-lt, get_or-set_same}
 use Rattle.standard.specs.Told.{pick}
 use Rattle.lines.specs.Text.{digits_of, decimal_of}
 
@@ -74,7 +74,3 @@ module _ (n : ℕ) (d : List ℕ) (i rest : ℕ) (r : Spelling n d i rest) where
 
   pub last : rest ≤ 9 → drop (i - 1) (set d (i - 1) (48 + rest)) ≡ decimal_of n
   last = the_last n d (i - 1) rest (subst⁻¹ (λ (k : ℕ). Spelling n d k rest) (before i r.low) r)
-
--- all that stands from a place on
-pub all_after : (n : ℕ) (d : List ℕ) (from : ℕ) → length d ≡ 20 → drop from d ≡ decimal_of n → take (20 - from) (drop from d) ≡ decimal_of n
-all_after n d from l e = take_all (20 - from) (drop from d) (simp length-drop (omega arith)) ∙ e

@@ -1,3 +1,5 @@
 pub mod Text
+pub mod Adds
+pub mod AddsLaws
 pub mod Said
 pub mod SaidLaws

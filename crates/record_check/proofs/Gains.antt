@@ -1,15 +1,15 @@
 -- The number of a gain by its bit pattern.
-use mathlib.Core.Path.{◌≡◌, refl, sym, ap, subst, ◌∙◌}
-use mathlib.Core.Bool.{Bool, true, false, not}
+use mathlib.Core.Path.{◌≡◌, refl, sym, ap, ◌∙◌}
+use mathlib.Core.Bool.{Bool, true, false}
 use mathlib.Core.List.{List, [], ◌∷◌}
 use Prim.Native.Nat.{ℕ, zero, suc}
 use native.Mathlib.Omega.{arith}
 use borrow.Author.Tests.{ltb-true}
 use lib.Dec.{T, ltb}
 use lib.ListN.{get_or}
-use lib.Ieee.{Float, nan, inf, fin, binary32, fits, is_nan, ne, of_bits, to_bits, of_int}
+use lib.Ieee.{Float, nan, inf, fin, binary32, fits, is_nan, of_bits, to_bits, of_int}
 use lib.Ieee.Bits.{of_bits-to_bits}
-use lib.Ieee.Compare.{differs_from_itself}
+use Rattle.standard.specs.ToldLaws.{never}
 use Rattle.standard.specs.Rows.{place, later}
 use Rattle.standard.specs.Same.{same_int, same_float}
 use Rattle.standard.specs.SameLaws.{float_is}
@@ -32,24 +32,17 @@ back (suc (suc (suc (suc (suc (suc zero)))))) h = (refl, refl)
 back (suc (suc (suc (suc (suc (suc (suc zero))))))) h = (refl, refl)
 back (suc (suc (suc (suc (suc (suc (suc (suc k)))))))) h = absurd (omega (arith, ltb-true))
 
+-- a NaN is no gain
+pub gain_nan : (g : Float) → is_nan g ≡ true → 8 ≡ gain_number g
+unfolding is_nan gain_number place later gains_row same_float of_int
+gain_nan nan e = refl
+gain_nan (inf s) e = never e
+gain_nan (fin s m k) e = never e
+
 module _ (g : Float) where
   -- a float of the pattern at k
   pub gain_at : (k : ℕ) → ltb k 8 ≡ true → T (fits binary32 g) → to_bits binary32 g ≡ get_or patterns k 0 → k ≡ gain_number g
   gain_at k h f e = (back k h).0 ∙ ap gain_number (ap (of_bits binary32) (sym e) ∙ of_bits-to_bits binary32 g f)
-
-  -- a float that is equal to itself is no NaN, and a NaN is no gain
-  pub no_nan : ne g g ≡ false → T (not (is_nan g))
-  unfolding is_nan ne
-  no_nan e = go g e
-    where
-      go : (x : Float) → ne x x ≡ false → T (not (is_nan x))
-      go nan e = subst T e tt
-      go (inf s) e = tt
-      go (fin s m k) e = tt
-
-  pub gain_nan : ne g g ≡ true → 8 ≡ gain_number g
-  unfolding gain_number place later gains_row same_float of_int
-  gain_nan e = ap gain_number (sym (differs_from_itself g (subst T (sym e) tt)))
 
   -- a float of none of the patterns
   unlike : (k : ℕ) → ltb k 8 ≡ true → (to_bits binary32 g ≡ get_or patterns k 0 → ⊥) → same_float g (gain_of k) ≡ false

@@ -1,13 +1,12 @@
-// Which records, and which side information, bits read to.
+// What is asked of the fields of records and of side information.
 ghost use Rattle.std.specs.Prelude.{◌≡◌, ◌≤◌};
 ghost use Rattle.standard.specs.Told.{pick};
-ghost use Rattle.standard.specs.Record.{gain_number, gain_below, trio, below, is_long, is_head, is_unmixed, is_long_body, is_switched_body, is_record};
-ghost use Rattle.standard.specs.SideInfo.{is_absent, are_shares, are_slots, is_side_by};
+ghost use Rattle.standard.specs.Record.{gain_number, gain_below, trio, below, is_long, is_head, is_unmixed, is_long_body, is_switched_body};
+ghost use Rattle.standard.specs.SideInfo.{is_absent, are_shares};
 
 use crate::given::{compress_width, first_region, second_region};
-use crate::layout::layout_of;
 use derived::{is_mixed, shape_of};
-use standard::{BlockType, MOST_BIG_VALUES, SideInfo, SlotRecord};
+use standard::{BlockType, MOST_BIG_VALUES, SlotRecord};
 
 // The patterns of the gains have nothing in their last 21 bits, so that the bits before these tell them, in a row without wide gaps.
 const GAIN_STEP: u32 = 0x0020_0000;
@@ -16,12 +15,12 @@ const GAIN_STEP: u32 = 0x0020_0000;
 pub fn gain_number(g: f32) -> u8
     ensures { result ≡ gain_number g }
 {
-    if g != g {
+    if g.is_nan() {
         return 8;
     }
     let p = f32::to_bits(g);
     if p == 0 {
-        return 0;
+        return 0; // most gains; among the others it would leave a wide gap, which costs speed
     }
     if p % GAIN_STEP != 0 {
         return 8;
@@ -39,6 +38,7 @@ pub fn gain_number(g: f32) -> u8
 }
 
 // Each of three gains is below n.
+#[tactic(auto, unfolding(standard::specs::Record::trio))]
 pub(crate) fn gains_below(g: [f32; 3], n: u8) -> bool
     ensures { result ≡ trio (gain_below n) (gain_below n) (gain_below n) g }
 {
@@ -49,6 +49,7 @@ pub(crate) fn gains_below(g: [f32; 3], n: u8) -> bool
 }
 
 // The first two tables are below m, the third below n.
+#[tactic(auto, unfolding(standard::specs::Record::trio))]
 pub(crate) fn tables_below(t: [u8; 3], m: u8, n: u8) -> bool
     ensures { result ≡ trio (below m) (below m) (below n) t }
 {
@@ -58,15 +59,11 @@ pub(crate) fn tables_below(t: [u8; 3], m: u8, n: u8) -> bool
 pub(crate) fn is_long(k: BlockType) -> bool
     ensures { result ≡ is_long k }
 {
-    match k {
-        BlockType::Long => true,
-        BlockType::Start => false,
-        BlockType::Short => false,
-        BlockType::End => false,
-    }
+    matches!(k, BlockType::Long)
 }
 
 // What every record has: its gain is in range by its type.
+#[tactic(auto, using(crate::proofs::Widths::width, crate::proofs::Tests::head_is))]
 pub(crate) fn is_head(mpeg1: bool, r: SlotRecord) -> bool
     ensures { result ≡ is_head mpeg1 r }
 {
@@ -79,6 +76,7 @@ pub(crate) fn is_head(mpeg1: bool, r: SlotRecord) -> bool
 }
 
 // The rest of a record whose window is not switched.
+#[tactic(auto, unfolding(standard::specs::Record::is_long_body))]
 pub(crate) fn is_long_body(r: SlotRecord) -> bool
     ensures { result ≡ is_long_body r }
 {
@@ -90,6 +88,7 @@ pub(crate) fn is_long_body(r: SlotRecord) -> bool
 }
 
 // And of one whose window is.
+#[tactic(auto, unfolding(standard::specs::Record::is_switched_body))]
 pub(crate) fn is_switched_body(r: SlotRecord) -> bool
     ensures { result ≡ is_switched_body r }
 {
@@ -105,7 +104,7 @@ pub(crate) fn is_switched_body(r: SlotRecord) -> bool
 }
 
 // Whether a record is one that 8 kHz allows, where that is the rate.
-fn is_unmixed(slow: bool, r: SlotRecord) -> bool
+pub(crate) fn is_unmixed(slow: bool, r: SlotRecord) -> bool
     ensures { result ≡ is_unmixed slow r }
 {
     let k = r.block_type;
@@ -113,20 +112,20 @@ fn is_unmixed(slow: bool, r: SlotRecord) -> bool
     !(slow & is_mixed(shape))
 }
 
-// Whether some bits read to a slot's record.
-pub(crate) fn fits_record(mpeg1: bool, slow: bool, r: SlotRecord) -> bool
-    ensures { result ≡ is_record mpeg1 slow r }
+// The rest of a record, by whether its window is switched.
+#[tactic(auto, unfolding(standard::specs::Told::pick))]
+pub(crate) fn is_body(r: SlotRecord) -> bool
+    ensures { result ≡ pick (is_long r.block_type) (is_long_body r) (is_switched_body r) }
 {
     let k = r.block_type;
-    let head = is_head(mpeg1, r);
-    let unmixed = is_unmixed(slow, r);
     if is_long(k) {
-        return head & unmixed & is_long_body(r);
+        return is_long_body(r);
     }
-    head & unmixed & is_switched_body(r)
+    is_switched_body(r)
 }
 
 // Whether a record is that of a slot which the frame lacks.
+#[tactic(auto, unfolding(standard::specs::SideInfo::is_absent, standard::specs::SideInfo::no_head, standard::specs::SideInfo::no_body, standard::specs::SideInfo::no_tail))]
 pub(crate) fn is_absent(r: SlotRecord) -> bool
     ensures { result ≡ is_absent r }
 {
@@ -144,52 +143,8 @@ pub(crate) fn is_absent(r: SlotRecord) -> bool
 
 // Eight sharing bits, of which none from the n-th on is set.
 pub(crate) fn no_shares(n: usize, s: [bool; 8]) -> bool
+    requires { n ≤ 8 }
     ensures { result ≡ are_shares n s }
 {
-    let mut i = 0;
-    while i < 8 {
-        if (n <= i) & s[i] {
-            return false;
-        }
-        i += 1;
-    }
-    true
-}
-
-// A slot that is there, or one that the frame lacks.
-pub(crate) fn slot_fits(mpeg1: bool, slow: bool, there: bool, r: SlotRecord) -> bool
-    ensures { result ≡ pick there (is_record mpeg1 slow r) (is_absent r) }
-{
-    if there {
-        return fits_record(mpeg1, slow, r);
-    }
-    is_absent(r)
-}
-
-// Four slots: n records, and then those of lacking slots.
-pub(crate) fn slots_fit(mpeg1: bool, slow: bool, n: usize, s: [SlotRecord; 4]) -> bool
-    requires { n ≤ 4 }
-    ensures { result ≡ are_slots mpeg1 slow n s }
-{
-    let mut i = 0;
-    while i < 4 {
-        let r = s[i];
-        if !slot_fits(mpeg1, slow, i < n, r) {
-            return false;
-        }
-        i += 1;
-    }
-    true
-}
-
-// Whether some bytes read to side information.
-pub(crate) fn fits_side(mpeg1: bool, two: bool, slow: bool, i: SideInfo) -> bool
-    ensures { result ≡ is_side_by mpeg1 two slow i }
-{
-    let l = layout_of(mpeg1, two);
-    let shares = i.scfsi;
-    let slots = i.slots;
-    let a = no_shares(l.shares, shares);
-    let b = slots_fit(mpeg1, slow, l.slots, slots);
-    (i.main_data_begin < (1 << l.main_data_begin)) & a & b
+    !s[n..].contains(&true)
 }

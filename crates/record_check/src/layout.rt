@@ -14,38 +14,34 @@ pub struct Layout {
 pub fn layout_of(mpeg1: bool, two: bool) -> Layout
     ensures { LaidOut mpeg1 two result }
 {
-    if mpeg1 {
-        if two {
-            return Layout {
-                main_data_begin: 9,
-                prefix: 12,
-                shares: 8,
-                slots: 4,
-                size: 32,
-            };
-        }
-        return Layout {
+    match (mpeg1, two) {
+        (true, true) => Layout {
+            main_data_begin: 9,
+            prefix: 12,
+            shares: 8,
+            slots: 4,
+            size: 32,
+        },
+        (true, false) => Layout {
             main_data_begin: 9,
             prefix: 14,
             shares: 4,
             slots: 2,
             size: 17,
-        };
-    }
-    if two {
-        return Layout {
+        },
+        (false, true) => Layout {
             main_data_begin: 8,
             prefix: 10,
             shares: 0,
             slots: 2,
             size: 17,
-        };
-    }
-    Layout {
-        main_data_begin: 8,
-        prefix: 9,
-        shares: 0,
-        slots: 1,
-        size: 9,
+        },
+        (false, false) => Layout {
+            main_data_begin: 8,
+            prefix: 9,
+            shares: 0,
+            slots: 1,
+            size: 9,
+        },
     }
 }

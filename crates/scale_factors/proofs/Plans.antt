@@ -1,48 +1,42 @@
--- A slot's plan: its bits group by group, and that it can be read; and its factors, read over zeros, at their places of the long and of
--- the short ones.
+-- A slot's plan: that it can be read; and its factors, read over zeros, at their places of the long and of the short ones.
 use mathlib.Core.Path.{◌≡◌, refl, sym, ap, ◌∙◌, subst}
 use mathlib.Core.Bool.{Bool, true, false}
-use mathlib.Core.List.{List, ◌∷◌, ◌++◌}
+use mathlib.Core.List.{List, ◌∷◌, ◌++◌, append_assoc}
 use Prim.Native.Nat.{ℕ, zero, suc, ◌+◌, ◌-◌, ◌<◌, ◌≤◌}
-use native.Mathlib.Nat.{sub-zero, zero-sub, zero-add}
+use native.Mathlib.Nat.{sub-zero, zero-sub}
 use native.Mathlib.Omega.{arith}
-use lib.ListN.{length, get_or, take, drop, replicate, length-append, length-replicate, length-take, length-drop}
-use lib.Seq.{sets, take_all, length-take-le, take-append-le, drop-append-le, take_at, sets-eq}
-use Rattle.lent_bytes.specs.Put.{Put}
-use Rattle.lent_bytes.specs.PutLaws.{put_whole}
+use lib.ListN.{length, take, drop, replicate, length-drop}
+use lib.Seq.{sets, take-append-le, drop-append-le, take_at, sets-eq}
+use borrow.Rule.Slice.PartMut.{put_mid}
+use Rattle.std.specs.List.{All}
 use Rattle.standard.specs.ToldLaws.{never}
 use Rattle.standard.specs.Record.{shape_of}
 use Rattle.standard.specs.Bits.{bits}
-use Rattle.standard.specs.Factors.{plan_by, plan_of, group, groups_from, sources_of, may_share, plan_bits, factors_from}
-use Rattle.standard.specs.Factors.{long_count, short_count, short_from, factor_count, long_factors, short_factors, bands_of}
-use Rattle.standard.proofs.FactorsLaws.{few_factors, plan-bits_append, plan-length, lengths_small, shape_unshares, shape_unshared, plan-factors_length}
+use Rattle.standard.specs.Factors.{plan_by, plan_of, sources_of, may_share, plan_bits, factors_from}
+use Rattle.standard.specs.Factors.{long_count, short_count, short_from, factor_count, long_factors, short_factors}
+use Rattle.standard.proofs.FactorsLaws.{few_factors, plan-length, lengths_small, shape_unshares, shape_unshared, plan-factors_length}
 use Rattle.standard.specs.declared.Setting.{Setting}
 use Rattle.standard.specs.declared.SlotRecord.{SlotRecord}
+use Rattle.standard.specs.declared.Group.{Group}
 use Rattle.standard.specs.declared.Plan.{Plan}
 use Rattle.standard.specs.declared.Shape.{Shape}
 use Rattle.standard.specs.declared.Shape.TheVariants.{AllLong, AllShort, LongThenShort}
-use Rattle.scale_factors.specs.Flat.{flat_of, flat_bands}
 use Rattle.scale_factors.specs.Groups.{Fit, filled, factors_at, old_for}
 
-pub four_bits : (p : Plan) → plan_bits (group p 0) + plan_bits (group p 1) + plan_bits (group p 2) + plan_bits (group p 3) ≡ plan_bits (sources_of p)
-unfolding groups_from plan_bits
-four_bits p = simp plan-bits_append (omega arith)
-
 -- only long bands share, and there are no more than granule 0 has
-share_long : (mpeg1 intensity : Bool) (shares : List Bool) (k : Shape) (c g : ℕ) → get_or (plan_by mpeg1 intensity shares k c).shares g false ≡ true
-    → factor_count mpeg1 k ≤ 22
-share_long mpeg1 intensity shares AllLong c g e = omega arith
-share_long mpeg1 intensity shares AllShort c g e = never (sym (shape_unshares mpeg1 intensity shares AllShort c refl g) ∙ e)
-share_long mpeg1 intensity shares LongThenShort c g e = never (sym (shape_unshares mpeg1 intensity shares LongThenShort c refl g) ∙ e)
+share_long : (mpeg1 intensity : Bool) (shares : List Bool) (k : Shape) (c : ℕ)
+    → All (λ (g : Group). g.shared ≡ true → factor_count mpeg1 k ≤ 22) (plan_by mpeg1 intensity shares k c).groups
+share_long mpeg1 intensity shares AllLong c i g h e = omega arith
+share_long mpeg1 intensity shares AllShort c i g h e = never (sym (shape_unshares mpeg1 intensity shares AllShort c refl i g h) ∙ e)
+share_long mpeg1 intensity shares LongThenShort c i g h e = never (sym (shape_unshares mpeg1 intensity shares LongThenShort c refl i g h) ∙ e)
 
-pub plan-fit : (g : Setting) (r : SlotRecord) {p : Plan} → p ≡ plan_of g r → (at : ℕ) → at < 4294967296 → Fit p 36 at
+pub plan-fit : (g : Setting) (r : SlotRecord) {p : Plan} → p ≡ plan_of g r → (at : ℕ) → at < 4294967296 → Fit p at
 unfolding plan_of
-plan-fit g r e at l = subst (λ (p : Plan). Fit p 36 at) (sym e)
+plan-fit g r e at l = subst (λ (p : Plan). Fit p at) (sym e)
     (record {
       narrow = lengths_small g.mpeg1 g.intensity g.shares (shape_of r) r.scalefac_compress;
       few = omega (arith, plan-length g r, few_factors g.mpeg1 (shape_of r));
-      room = omega (arith, plan-length g r, few_factors g.mpeg1 (shape_of r));
-      mate = λ n f. omega (arith, plan-length g r, share_long g.mpeg1 g.intensity g.shares (shape_of r) r.scalefac_compress n f);
+      mate = λ i x h f. omega (arith, plan-length g r, share_long g.mpeg1 g.intensity g.shares (shape_of r) r.scalefac_compress i x h f);
       near = l;
     })
 
@@ -60,24 +54,15 @@ drop-zeros zero n = rw sub-zero
 drop-zeros (suc k) zero = rw zero-sub
 drop-zeros (suc k) (suc n) = let p : n - k ≡ suc n - suc k = omega arith in drop-zeros k n ∙ ap zeros p
 
-module _ (fs : List ℕ) (n end : ℕ) (within : end ≤ length fs) where
-  -- the members from the n-th to the end, at a place of m
-  pub part_put : (m at : ℕ) {r : ℕ} {left : List ℕ} → Put (zeros m) at (take (end - n) (drop n fs)) r left → at + (end - n) ≤ m
-      → left ≡ zeros at ++ take (end - n) (drop n fs) ++ zeros (m - (at + (end - n)))
-  part_put m at p h =
-      let part = take (end - n) (drop n fs) in
-      let l : length part ≡ end - n = length-take-le (end - n) (drop n fs) (omega (arith, length-drop n fs)) in
-      let w : length (zeros m) ≡ m = length-replicate m 0 in
-      put_whole p (omega arith)
-      ∙ ap (λ (k : ℕ). take at (zeros m) ++ take k part ++ drop (at + k) (zeros m)) l
-      ∙ (λ j. take-zeros at m (omega arith) j ++ take_all (end - n) part (omega arith) j ++ drop-zeros (at + (end - n)) m j)
-
--- the first n, at the first of m places
-pub first-put : (fs : List ℕ) (m n : ℕ) {r : ℕ} {left : List ℕ} → n ≤ length fs → n ≤ m → Put (zeros m) 0 (take (n - 0) (drop 0 fs)) r left
-    → left ≡ take n fs ++ zeros (m - n)
-first-put fs m n within h p =
-    let q : n - 0 ≡ n = omega arith in
-    part_put fs 0 n within m 0 p (omega arith) ∙ (λ j. take (q j) fs ++ zeros (m - (zero-add (n - 0) ∙ q) j))
+-- a list at a place of m zeros
+pub put_in : (at n m : ℕ) (l : List ℕ) → n ≡ length l → at + length l ≤ m → put_mid at n (zeros m) l ≡ zeros at ++ l ++ zeros (m - (at + length l))
+put_in at n m l e h =
+    (λ j. take-zeros at m (omega arith) j ++ (l ++ drop (e j) (drop-zeros at m j)))
+    ∙ ap (λ (x : List ℕ). zeros at ++ (l ++ x)) (drop-zeros (length l) (m - at) ∙ ap zeros d)
+    ∙ sym (append_assoc (zeros at) l (zeros (m - (at + length l))))
+  where
+    d : m - at - length l ≡ m - (at + length l)
+    d = omega arith
 
 -- ---- the factors of a slot at their places
 -- what follows the factors is not taken
@@ -95,16 +80,6 @@ module _ (mpeg1 : Bool) (k : Shape) (l more : List ℕ) (e : length l ≡ factor
       let left : length (drop n l) ≡ c = omega (arith, length-drop n l) in
       ap (λ (x : List ℕ). zeros (short_from k) ++ x ++ zeros (39 - (short_from k + c)))
       (ap (take c) (drop-append-le n l more (omega arith)) ∙ take_at (drop n l) more c left)
-
--- laid out in thirteen bands, 39 factors are the same one after the other
-pub bands_back : (fs : List ℕ) (n c from : ℕ) {a : List (List ℕ)} → length fs ≡ 36 → n + c ≤ 36 → from + c ≤ 36
-    → a ≡ bands_of 13 (zeros from ++ take (n + c - n) (drop n fs) ++ zeros (39 - (from + (n + c - n))))
-    → flat_of a ≡ zeros from ++ take c (drop n fs) ++ zeros (39 - (from + c))
-bands_back fs n c from l h k e =
-    let d : n + c - n ≡ c = omega arith in
-    ap flat_of e
-    ∙ (λ j. flat_of (bands_of 13 (zeros from ++ take (d j) (drop n fs) ++ zeros (39 - (from + d j)))))
-    ∙ flat_bands (zeros from ++ take c (drop n fs) ++ zeros (39 - (from + c))) (simp (length-append, length-replicate, length-take, length-drop) (omega arith))
 
 -- what may not share does not go by granule 0
 old_for_lem : (g : Setting) (r : SlotRecord) (old : List ℕ) (b : List Bool) (share : Bool) → share ≡ may_share (shape_of r)

@@ -1,19 +1,19 @@
 -- Where a reader of factors stands: what is written, with what is left of the plan, is the whole answer. A part of the plan, were it one
 -- source or one group, is read by one law.
 use mathlib.Core.Path.{◌≡◌, refl, sym, ap, ◌∙◌, subst}
-use mathlib.Core.Bool.{false}
 use mathlib.Core.List.{List, [], ◌∷◌, ◌++◌}
 use Prim.Native.Nat.{ℕ, suc, ◌+◌, ◌-◌, ◌*◌, ◌<◌, ◌≤◌}
 use native.Mathlib.Nat.{add-zero}
 use native.Mathlib.Numerals.{add-one}
 use native.Mathlib.Omega.{arith}
-use lib.ListN.{length, get_or, drop, set, replicate, length-set, length-append}
-use lib.Seq.{sets, length-sets, get_or-drop, drop-drop}
+use lib.ListN.{length, get_or, drop, set, replicate, length-append, drop_of_length-le}
+use lib.Seq.{sets, get_or-drop, drop-cons, drop-drop}
 use Rattle.standard.specs.Bits.{bits}
 use Rattle.standard.specs.BitsLaws.{drop_bits}
-use Rattle.standard.specs.Factors.{group, groups_from, sources_of, Source, plan_bits, factors_from, width_of, factor_by}
-use Rattle.standard.proofs.FactorsLaws.{source_small, group-length, group-small, groups_small, plan-bits_cons, plan-bits_append, factors_cons, factors_length, factors_append, factors_bits}
-use Rattle.scale_factors.specs.Groups.{source_in, filled, Group, Fit}
+use Rattle.standard.specs.Factors.{source_of, group, groups_from, sources_of, Source, plan_bits, factors_from, width_of, factor_by}
+use Rattle.standard.proofs.FactorsLaws.{group-length, group-small, groups_small, plan-bits_cons, plan-bits_append, factors_cons, factors_length, factors_append, factors_bits}
+use Rattle.scale_factors.specs.Groups.{filled, Readable, Fit}
+use Rattle.standard.specs.declared.Group.{Group}
 use Rattle.standard.specs.declared.Plan.{Plan}
 
 sets_append : {A : Type 0} (us vs : List A) (l : List A) (i : ℕ) → sets l i (us ++ vs) ≡ sets (sets l i us) (i + length us) vs
@@ -21,10 +21,6 @@ sets_append [] vs l i = ap (λ (k : ℕ). sets l k vs) (sym (add-zero i))
 sets_append (u ∷ us) vs l i =
     let p : suc i + length us ≡ i + suc (length us) = omega arith in
     sets_append us vs (set l i u) (suc i) ∙ ap (λ (k : ℕ). sets (sets (set l i u) (suc i) us) k vs) p
-
-filled-length : (fs : List ℕ) (i : ℕ) (ps : List Source) (old s : List ℕ) (at : ℕ) → length (filled fs i ps old s at) ≡ length fs
-unfolding filled
-filled-length fs i ps old s at = length-sets fs i (factors_from ps (drop i old) (bits s at (plan_bits ps)))
 
 -- first the factors of qs, then those of ps
 filled-append : (qs ps : List Source) (fs : List ℕ) (i : ℕ) (old s : List ℕ) (at : ℕ)
@@ -76,111 +72,119 @@ module _ (answer : List ℕ) (stop : ℕ) (fs : List ℕ) (i : ℕ) (old s : Lis
   reading_end r = (omega (arith, r.upto), sym r.same)
 
 -- ---- the factors of a group, one by one: they have one source
-pub own_group : (p : Plan) (g first : ℕ) → replicate (first + get_or p.counts g 0 - first) (source_in p g) ≡ group p g
+-- what is written, with the factors of the group from the i-th place on, is the whole
+pub record InGroup (g : Group) (old s : List ℕ) (at : ℕ) (before : List ℕ) (first : ℕ) (fs : List ℕ) (place i : ℕ) : Type 0 where
+  pub reads : Reading (filled before first (group g) old s at) (at + plan_bits (group g)) fs i (replicate (first + g.count - i) (source_of g)) old s place
+
+pub group-begin : (g : Group) (old s : List ℕ) (at : ℕ) (before : List ℕ) (first : ℕ) → InGroup g old s at before first before at first
 unfolding group
-own_group p g first = let n : first + get_or p.counts g 0 - first ≡ get_or p.counts g 0 = omega arith in ap (λ (k : ℕ). replicate k (source_in p g)) n
+group-begin g old s at before first =
+    let n : g.count ≡ first + g.count - first = omega arith in
+    let answer = filled before first (group g) old s at in
+    let stop = at + plan_bits (group g) in
+    record { reads = subst (λ (k : ℕ). Reading answer stop before first (replicate k (source_of g)) old s at) n (reading_begin before first (group g) old s at) }
 
-pub narrow_width : {p : Plan} {g first n at : ℕ} → Group p g first n at → {width : ℕ} → width ≡ width_of (source_in p g) → width ≤ 5
-narrow_width {p} {g} r e = omega (arith, source_small (get_or p.shares g false) (get_or p.lengths g 0) r.narrow)
+module _ (g : Group) (old s : List ℕ) (at : ℕ) (before : List ℕ) (first : ℕ) (fs : List ℕ) (place i : ℕ) (w : InGroup g old s at before first fs place i) where
+  answer : List ℕ
+  answer = filled before first (group g) old s at
 
-pub record InGroup (x : Source) (old s : List ℕ) (at : ℕ) (before : List ℕ) (first end : ℕ) (fs : List ℕ) (place i : ℕ) : Type 0 where
-  pub within : i ≤ end
-  pub long : length fs ≡ length before
-  pub reads : Reading (filled before first (replicate (end - first) x) old s at) (at + plan_bits (replicate (end - first) x)) fs i
-      (replicate (end - i) x) old s place
+  stop : ℕ
+  stop = at + plan_bits (group g)
 
-module _ (x : Source) (old s : List ℕ) (at : ℕ) (before : List ℕ) (first end : ℕ) where
-  pub group-begin : first ≤ end → InGroup x old s at before first end before at first
-  group-begin h = record { within = h; long = refl; reads = reading_begin before first (replicate (end - first) x) old s at }
+  left : ℕ → List Source
+  left n = replicate n (source_of g)
 
-  module _ (fs : List ℕ) (place i : ℕ) (w : InGroup x old s at before first end fs place i) where
-    pub group-turn : (v width : ℕ) → i < end → width ≡ width_of x → v ≡ factor_by x (get_or old i 0) (bits s place (width_of x))
-        → InGroup x old s at before first end (set fs i v) (place + width) (i + 1)
-    group-turn v width h e q =
-        let answer = filled before first (replicate (end - first) x) old s at in
-        let stop = at + plan_bits (replicate (end - first) x) in
-        let rest = replicate (end - (i + 1)) x in
-        let k : end - i ≡ suc (end - (i + 1)) = omega arith in
-        let r : Reading answer stop fs i (x ∷ rest) old s place = subst (λ (n : ℕ). Reading answer stop fs i (replicate n x) old s place) k w.reads in
-        record {
-          within = omega arith;
-          long = length-set fs i v ∙ w.long;
-          reads =
-              subst (λ (n : ℕ). Reading answer stop (set fs i v) (i + 1) rest old s (place + n)) (sym e)
-              (reading_one answer stop fs i old s place x rest v r q);
-        }
+  pub group-turn : (v width : ℕ) → i < first + g.count → width ≡ width_of (source_of g)
+      → v ≡ factor_by (source_of g) (get_or old i 0) (bits s place (width_of (source_of g)))
+      → InGroup g old s at before first (set fs i v) (place + width) (i + 1)
+  unfolding answer stop left
+  group-turn v width h e q =
+      let n = first + g.count - (i + 1) in
+      let k : first + g.count - i ≡ suc n = omega arith in
+      let r : Reading answer stop fs i (source_of g ∷ left n) old s place = subst (λ (m : ℕ). Reading answer stop fs i (left m) old s place) k w.reads in
+      record {
+        reads =
+            subst (λ (m : ℕ). Reading answer stop (set fs i v) (i + 1) (left n) old s (place + m)) (sym e)
+            (reading_one answer stop fs i old s place (source_of g) (left n) v r q);
+      }
 
-    module _ (p : Plan) (g : ℕ) (e : replicate (end - first) x ≡ group p g) where
-      pub group-end : end ≤ i → (place ≡ at + plan_bits (group p g)) × (fs ≡ filled before first (group p g) old s at)
-      group-end h =
-          let answer = filled before first (replicate (end - first) x) old s at in
-          let stop = at + plan_bits (replicate (end - first) x) in
-          let k : end - i ≡ 0 = omega arith in
-          let r = reading_end answer stop fs i old s place (subst (λ (n : ℕ). Reading answer stop fs i (replicate n x) old s place) k w.reads) in
-          (r.0 ∙ ap (λ (qs : List Source). at + plan_bits qs) e, r.1 ∙ ap (λ (qs : List Source). filled before first qs old s at) e)
+  pub group-end : first + g.count ≤ i → (place ≡ at + plan_bits (group g)) × (fs ≡ filled before first (group g) old s at)
+  unfolding answer stop left
+  group-end h =
+      let k : first + g.count - i ≡ 0 = omega arith in
+      reading_end answer stop fs i old s place (subst (λ (m : ℕ). Reading answer stop fs i (left m) old s place) k w.reads)
 
-      -- no place within a group is far
-      pub group-near : get_or p.lengths g 0 ≤ 5 → place ≤ at + 5 * get_or p.counts g 0
-      group-near h = omega (arith, w.reads.upto, ap plan_bits e, group-small p g h)
+  -- no place within a group is far
+  pub group-near : g.length ≤ 5 → place ≤ at + 5 * g.count
+  group-near h = omega (arith, w.reads.upto, group-small g h)
 
 -- ---- the groups of a plan, one by one
-pub record InPlan (p : Plan) (old s : List ℕ) (at : ℕ) (before : List ℕ) (fs : List ℕ) (place done g : ℕ) : Type 0 where
-  pub within : g ≤ 4
-  pub long : length fs ≡ length before
-  pub count : done + length (groups_from p g (4 - g)) ≡ length (sources_of p)
-  pub reads : Reading (filled before 0 (sources_of p) old s at) (at + plan_bits (sources_of p)) fs done (groups_from p g (4 - g)) old s place
+-- what is written, with the groups gs, is the whole
+pub record InPlan (p : Plan) (old s : List ℕ) (at : ℕ) (before : List ℕ) (fs : List ℕ) (place done : ℕ) (gs : List Group) : Type 0 where
+  pub count : done + length (groups_from gs) ≡ length (sources_of p)
+  pub reads : Reading (filled before 0 (sources_of p) old s at) (at + plan_bits (sources_of p)) fs done (groups_from gs) old s place
 
--- the next group, and the rest
-next_group : (p : Plan) (g : ℕ) → g < 4 → groups_from p g (4 - g) ≡ group p g ++ groups_from p (g + 1) (4 - (g + 1))
+-- the i-th group, and those after it
+next_group : (gs : List Group) (i : ℕ) (g : Group) → i < length gs → groups_from (drop i gs) ≡ group (get_or gs i g) ++ groups_from (drop (i + 1) gs)
 unfolding groups_from
-next_group p g h =
-    let k : 4 - g ≡ suc (4 - (g + 1)) = omega arith in
-    ap (groups_from p g) k ∙ ap (λ (n : ℕ). group p g ++ groups_from p n (4 - (g + 1))) (sym (add-one g))
+next_group gs i g h = ap groups_from (drop-cons gs i g h) ∙ ap (λ (n : ℕ). group (get_or gs i g) ++ groups_from (drop n gs)) (sym (add-one i))
+
+pub next_bits : (gs : List Group) (i : ℕ) (g : Group) → i < length gs
+    → plan_bits (groups_from (drop i gs)) ≡ plan_bits (group (get_or gs i g)) + plan_bits (groups_from (drop (i + 1) gs))
+next_bits gs i g h = ap plan_bits (next_group gs i g h) ∙ plan-bits_append (group (get_or gs i g)) (groups_from (drop (i + 1) gs))
+
+pub no_bits : (gs : List Group) (i : ℕ) → length gs ≤ i → plan_bits (groups_from (drop i gs)) ≡ 0
+unfolding groups_from plan_bits
+no_bits gs i h = ap (λ (l : List Group). plan_bits (groups_from l)) (drop_of_length-le gs h)
 
 module _ (p : Plan) (old s : List ℕ) (at : ℕ) (before : List ℕ) where
-  pub plan-begin : InPlan p old s at before before at 0 0
-  plan-begin =
-      record { within = omega arith; long = refl; count = omega arith; reads = reading_begin before 0 (sources_of p) old s at }
+  pub plan-begin : InPlan p old s at before before at 0 (drop 0 p.groups)
+  plan-begin = record { count = omega arith; reads = reading_begin before 0 (sources_of p) old s at }
 
-  module _ (fs : List ℕ) (place done g : ℕ) (w : InPlan p old s at before fs place done g) where
-    pub plan-group : Fit p (length before) at → g < 4 → Group p g done (length fs) place
-    plan-group f h =
-        let n = get_or p.counts g 0 in
-        let l : done + n ≤ length (sources_of p) = omega (arith, w.count, simp length-append at (ap length (next_group p g h)), group-length p g) in
+  module _ (fs : List ℕ) (place done i : ℕ) (w : InPlan p old s at before fs place done (drop i p.groups)) (g : Group) (h : i < length p.groups) where
+    own : Group
+    own = get_or p.groups i g
+
+    next : groups_from (drop i p.groups) ≡ group own ++ groups_from (drop (i + 1) p.groups)
+    unfolding own
+    next = next_group p.groups i g h
+
+    pub plan-group : Fit p at → Readable (get_or p.groups i g) done place
+    unfolding own
+    plan-group f =
+        let l : done + own.count ≤ length (sources_of p) = omega (arith, w.count, simp length-append at (ap length next), group-length own) in
         record {
-          one_of = h;
-          narrow = f.narrow g;
+          narrow = f.narrow i g h;
           few = omega (arith, f.few);
-          room = omega (arith, f.room, w.long);
-          mate = λ e. omega (arith, f.mate g e);
-          near = omega (arith, f.near, w.reads.upto, f.few, groups_small p f.narrow 0 4);
+          mate = λ e. omega (arith, f.mate i g h e);
+          near = omega (arith, f.near, w.reads.upto, f.few, groups_small p.groups f.narrow);
         }
 
-    pub plan-turn : (fs' : List ℕ) (place' : ℕ) → g < 4 → (place' ≡ place + plan_bits (group p g)) × (fs' ≡ filled fs done (group p g) old s place)
-        → InPlan p old s at before fs' place' (done + get_or p.counts g 0) (g + 1)
-    plan-turn fs' place' h e =
+    pub plan-turn : (fs' : List ℕ) (place' : ℕ)
+        → (place' ≡ place + plan_bits (group (get_or p.groups i g))) × (fs' ≡ filled fs done (group (get_or p.groups i g)) old s place)
+        → InPlan p old s at before fs' place' (done + (get_or p.groups i g).count) (drop (i + 1) p.groups)
+    unfolding own
+    plan-turn fs' place' e =
         let answer = filled before 0 (sources_of p) old s at in
         let stop = at + plan_bits (sources_of p) in
-        let own = group p g in
-        let rest = groups_from p (g + 1) (4 - (g + 1)) in
-        let n = group-length p g in
-        let r : Reading answer stop fs done (own ++ rest) old s place = subst (λ (ps : List Source). Reading answer stop fs done ps old s place)
-        (next_group p g h) w.reads in
-        let r' : Reading answer stop fs' (done + length own) rest old s (place + plan_bits own) = reading_part answer stop fs done old s place own rest r
+        let rest = groups_from (drop (i + 1) p.groups) in
+        let n = group-length own in
+        let r : Reading answer stop fs done (group own ++ rest) old s place = subst (λ (ps : List Source). Reading answer stop fs done ps old s place)
+        next w.reads in
+        let r' : Reading answer stop fs' (done + length (group own)) rest old s (place + plan_bits (group own)) = reading_part answer stop fs done old s place (group own) rest r
         e.1 in
         record {
-          within = omega arith;
-          long = ap length e.1 ∙ filled-length fs done own old s place ∙ w.long;
-          count = omega (arith, w.count, n, simp length-append at (ap length (next_group p g h)));
+          count = omega (arith, w.count, n, simp length-append at (ap length next));
           reads =
               subst (λ (k : ℕ). Reading answer stop fs' (done + k) rest old s place') n
-              (subst (Reading answer stop fs' (done + length own) rest old s) (sym e.0) r');
+              (subst (Reading answer stop fs' (done + length (group own)) rest old s) (sym e.0) r');
         }
 
-    pub plan-end : 4 ≤ g → fs ≡ filled before 0 (sources_of p) old s at
-    unfolding groups_from
-    plan-end h =
-        let answer = filled before 0 (sources_of p) old s at in
-        let stop = at + plan_bits (sources_of p) in
-        let k : 4 - g ≡ 0 = omega arith in
-        (reading_end answer stop fs done old s place (subst (λ (n : ℕ). Reading answer stop fs done (groups_from p g n) old s place) k w.reads)).1
+  pub plan-end : (fs : List ℕ) (place done i : ℕ) → InPlan p old s at before fs place done (drop i p.groups) → length p.groups ≤ i
+      → fs ≡ filled before 0 (sources_of p) old s at
+  unfolding groups_from
+  plan-end fs place done i w h =
+      let answer = filled before 0 (sources_of p) old s at in
+      let stop = at + plan_bits (sources_of p) in
+      (reading_end answer stop fs done old s place
+      (subst (λ (gs : List Group). Reading answer stop fs done (groups_from gs) old s place) (drop_of_length-le p.groups h) w.reads)).1

@@ -1,11 +1,11 @@
 -- What is read by a plan.
-use Rattle.std.specs.Prelude.{◌≡◌, Bool, true, false, List, ℕ, ◌+◌, ◌<◌, ◌≤◌, length, get_or, drop, replicate}
+use Rattle.std.specs.Prelude.{◌≡◌, All, Bool, true, false, List, ℕ, ◌+◌, ◌<◌, ◌≤◌, length, drop, replicate}
 use Rattle.std.proofs.lemmas.List.Edits.{sets}
-use Rattle.standard.specs.Told.{pick}
 use Rattle.standard.specs.Bits.{bits}
-use Rattle.standard.specs.Factors.{Source, shared, coded, plan_of, sources_of, plan_bits, factors_from}
+use Rattle.standard.specs.Factors.{Source, plan_of, sources_of, plan_bits, factors_from}
 use Rattle.standard.specs.declared.Setting.{Setting}
 use Rattle.standard.specs.declared.SlotRecord.{SlotRecord}
+use Rattle.standard.specs.declared.Group.{Group}
 use Rattle.standard.specs.declared.Plan.{Plan}
 
 -- the factors of a slot whose bits start at a place of s, granule 0's being `old`
@@ -17,31 +17,21 @@ abbrev pub old_for : Bool → List ℕ → List ℕ
 old_for true old = old
 old_for false old = replicate 22 0
 
--- where each factor of a group comes from
-abbrev pub source_of : Bool → ℕ → Source
-source_of shares w = pick shares shared (coded w)
-
-abbrev pub source_in : Plan → ℕ → Source
-source_in p g = source_of (get_or p.shares g false) (get_or p.lengths g 0)
-
 -- ---- what helpers promise and ask
 -- fs after the factors of a plan, read from a bit place of s on, are written from its i-th place on
 unfoldable pub filled : List ℕ → ℕ → List Source → List ℕ → List ℕ → ℕ → List ℕ
 filled fs i ps old s at = sets fs i (factors_from ps (drop i old) (bits s at (plan_bits ps)))
 
--- a group that can be read: its factors are few and of few bits, there are n places for them, and granule 0 has what it shares
-pub record Group (p : Plan) (g first n at : ℕ) : Type 0 where
-  pub one_of : g < 4
-  pub narrow : get_or p.lengths g 0 ≤ 5
-  pub few : first + get_or p.counts g 0 ≤ 36
-  pub room : first + get_or p.counts g 0 ≤ n
-  pub mate : get_or p.shares g false ≡ true → first + get_or p.counts g 0 ≤ 22
+-- a group that can be read: its factors are few and of few bits, and granule 0 has what it shares
+pub record Readable (g : Group) (first at : ℕ) : Type 0 where
+  pub narrow : g.length ≤ 5
+  pub few : first + g.count ≤ 36
+  pub mate : g.shared ≡ true → first + g.count ≤ 22
   pub near : at < 8589934592
 
 -- so for a plan
-pub record Fit (p : Plan) (n at : ℕ) : Type 0 where
-  pub narrow : (g : ℕ) → get_or p.lengths g 0 ≤ 5
+pub record Fit (p : Plan) (at : ℕ) : Type 0 where
+  pub narrow : All (λ (g : Group). g.length ≤ 5) p.groups
   pub few : length (sources_of p) ≤ 36
-  pub room : length (sources_of p) ≤ n
-  pub mate : (g : ℕ) → get_or p.shares g false ≡ true → length (sources_of p) ≤ 22
+  pub mate : All (λ (g : Group). g.shared ≡ true → length (sources_of p) ≤ 22) p.groups
   pub near : at < 4294967296

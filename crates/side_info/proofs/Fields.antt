@@ -1,4 +1,5 @@
 -- The fields of a record, cut out of the numbers that its parts are read as, and the way through its tests.
+use Rattle.std.specs.Prelude.{Ok, Err}
 use mathlib.Core.Path.{◌≡◌, refl, sym, ap, ◌∙◌}
 use mathlib.Core.Bool.{Bool, true, false, not, ◌&&◌}
 use mathlib.Core.List.{List}
@@ -8,7 +9,6 @@ use native.Mathlib.Omega.{arith}
 use borrow.Author.Tests.{lt-ltb, le-ltb, eq-eqb, ne_eqb}
 use lib.Dec.{ltb, leb, eqb}
 use lib.Ieee.{binary32, of_bits, of_int}
-use Rattle.standard.specs.Told.{told, refused}
 use Rattle.standard.specs.ToldLaws.{picked, passed, never, no_refusal, told_is}
 use Rattle.standard.specs.Bits.{bit_at, field, flag, field_at}
 use Rattle.standard.specs.BitsLaws.{field-bits, flag-bits, field_at_cut}
@@ -120,42 +120,42 @@ module _ {mpeg1 : Bool} {s : List ℕ} {at : ℕ} {k : Common} {w : ℕ} (e : Pa
   other : (w / 2 ^ 20 % 4 ≡ 0 → ⊥) → eqb (field b (30 + c) 2) 0 ≡ false
   other h = ne_eqb (field b (30 + c) 2) 0 (λ q. h (window_cut 1 2 20 refl ∙ q))
 
-  pub says_many : (slow : Bool) → 288 < k.big_values → record_of mpeg1 slow (record_bits mpeg1 s at) ≡ refused TooManyPairs
+  pub says_many : (slow : Bool) → 288 < k.big_values → record_of mpeg1 slow (record_bits mpeg1 s at) ≡ Err TooManyPairs
   unfolding record_of record_in
   says_many slow h = picked _ (lt-ltb 288 (field b 12 9) (rw pairs-are at h))
 
   module _ (slow : Bool) (h : k.big_values ≤ 288) where
     pub says_long : (w / 2 ^ 22 % 2 ≡ 1 → ⊥)
-        → record_of mpeg1 slow (record_bits mpeg1 s at) ≡ told (long_of mpeg1 (compress_width mpeg1) (record_bits mpeg1 s at))
+        → record_of mpeg1 slow (record_bits mpeg1 s at) ≡ Ok (long_of mpeg1 (compress_width mpeg1) (record_bits mpeg1 s at))
     unfolding record_of record_in
     says_long i = passed _ (few h) ∙ picked _ (is_not i)
 
     module _ (i : w / 2 ^ 22 % 2 ≡ 1) where
-      pub says_forbidden : w / 2 ^ 20 % 4 ≡ 0 → record_of mpeg1 slow (record_bits mpeg1 s at) ≡ refused ForbiddenBlock
+      pub says_forbidden : w / 2 ^ 20 % 4 ≡ 0 → record_of mpeg1 slow (record_bits mpeg1 s at) ≡ Err ForbiddenBlock
       unfolding record_of record_in
       says_forbidden l = passed _ (few h) ∙ passed _ (is_switched i) ∙ picked _ (eq-eqb (field b (30 + c) 2) 0 (sym (window_cut 1 2 20 refl) ∙ l))
 
       module _ (l : w / 2 ^ 20 % 4 ≡ 0 → ⊥) {t : BlockType} {z : Shape} {x : Bool} (p : t ≡ block_of (w / 2 ^ 20 % 4))
           (q : z ≡ shape_by t (eqb (w / 2 ^ 19 % 2) 1)) (r : x ≡ is_mixed z) where
-        pub says_mixed : slow && x ≡ true → record_of mpeg1 slow (record_bits mpeg1 s at) ≡ refused MixedBlock
+        pub says_mixed : slow && x ≡ true → record_of mpeg1 slow (record_bits mpeg1 s at) ≡ Err MixedBlock
         unfolding record_of record_in
         says_mixed m = passed _ (few h) ∙ passed _ (is_switched i) ∙ passed _ (other l) ∙ picked _ (sym (mixed_is slow p q r) ∙ m)
 
         pub says_switched : slow && x ≡ false
             → record_of mpeg1 slow (record_bits mpeg1 s at)
-            ≡ told (switched_of mpeg1 (compress_width mpeg1) (block_of (w / 2 ^ 20 % 4)) (eqb (w / 2 ^ 19 % 2) 1) (record_bits mpeg1 s at))
+            ≡ Ok (switched_of mpeg1 (compress_width mpeg1) (block_of (w / 2 ^ 20 % 4)) (eqb (w / 2 ^ 19 % 2) 1) (record_bits mpeg1 s at))
         unfolding record_of record_in
         says_switched m =
             passed _ (few h) ∙ passed _ (is_switched i) ∙ passed _ (other l) ∙ passed _ (sym (mixed_is slow p q r) ∙ m)
-            ∙ (λ j. told (switched_of mpeg1 c (sym type_is j) (sym (flag_is 3 19 refl) j) b))
+            ∙ (λ j. Ok (switched_of mpeg1 c (sym type_is j) (sym (flag_is 3 19 refl) j) b))
 
   -- ---- the record, where it has no fault
-  pub long-is : (slow : Bool) {a : SlotRecord} → (w / 2 ^ 22 % 2 ≡ 1 → ⊥) → record_of mpeg1 slow (record_bits mpeg1 s at) ≡ told a
+  pub long-is : (slow : Bool) {a : SlotRecord} → (w / 2 ^ 22 % 2 ≡ 1 → ⊥) → record_of mpeg1 slow (record_bits mpeg1 s at) ≡ Ok a
       → long_of mpeg1 (compress_width mpeg1) (record_bits mpeg1 s at) ≡ a
   unfolding record_of record_in
   long-is slow {a} i f = told_is (sym (picked _ (is_not i)) ∙ (no_refusal _ _ _ a f).1)
 
-  pub switched-is : (slow : Bool) {a : SlotRecord} → w / 2 ^ 22 % 2 ≡ 1 → record_of mpeg1 slow (record_bits mpeg1 s at) ≡ told a
+  pub switched-is : (slow : Bool) {a : SlotRecord} → w / 2 ^ 22 % 2 ≡ 1 → record_of mpeg1 slow (record_bits mpeg1 s at) ≡ Ok a
       → switched_of mpeg1 (compress_width mpeg1) (block_of (w / 2 ^ 20 % 4)) (eqb (w / 2 ^ 19 % 2) 1) (record_bits mpeg1 s at) ≡ a
   unfolding record_of record_in
   switched-is slow {a} i f =

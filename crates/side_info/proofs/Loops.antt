@@ -1,4 +1,5 @@
 -- The loops that fill an array from its front: with the slots' records, and with the sharing bits.
+use Rattle.std.specs.Prelude.{Result, Ok, Err}
 use mathlib.Core.Path.{◌≡◌, refl, sym, ap, ◌∙◌}
 use mathlib.Core.Bool.{Bool, false}
 use mathlib.Core.List.{List, [], ◌∷◌, ◌++◌, append_assoc, append-nil}
@@ -7,17 +8,13 @@ use native.Mathlib.Nat.{sub-zero, suc-mul}
 use native.Mathlib.Omega.{arith}
 use lib.ListN.{length, set, replicate, length-append}
 use lib.Seq.{set_at}
-use Rattle.standard.specs.Told.{Told, refused, told}
 use Rattle.standard.specs.Bits.{bit_at, bits}
 use Rattle.standard.specs.BitsLaws.{length-bits, drop_bits, take-bits, bits-add}
 use Rattle.standard.specs.Record.{absent, record_width, record_of}
 use Rattle.standard.specs.SideInfo.{then_records, records_of}
 use Rattle.standard.specs.declared.SlotRecord.{SlotRecord}
 use Rattle.standard.specs.declared.Refusal.{Refusal}
-use Rattle.standard.specs.declared.Verdict.{Verdict}
-use Rattle.standard.specs.declared.Verdict.TheVariants.{Accepted, Refused}
-use Rattle.side_info.specs.Parts.{record_bits, Gives, filled}
-use Rattle.side_info.proofs.Given.{gives_none, gives_told, given_none, given_told}
+use Rattle.side_info.specs.Parts.{record_bits, filled}
 use Rattle.record_check.proofs.Widths.{width}
 
 -- one more is stored in an array of n places
@@ -32,7 +29,7 @@ stored {A} n i d x done l h e =
 -- ---- records
 module _ (mpeg1 slow : Bool) (s : List ℕ) where
   -- the records of the k slots from a place on
-  abbrev rest : ℕ → ℕ → Told (List SlotRecord)
+  abbrev rest : ℕ → ℕ → Result (List SlotRecord) Refusal
   rest k at = records_of mpeg1 slow k (bits s at (k * record_width mpeg1))
 
   rest-step : (k at : ℕ)
@@ -47,19 +44,19 @@ module _ (mpeg1 slow : Bool) (s : List ℕ) where
       (records_of mpeg1 slow k ((drop_bits w s at (suc k * w) ∙ ap (bits s (at + w)) q) j))
 
 -- what was read before
-after : List SlotRecord → Told (List SlotRecord) → Told (List SlotRecord)
-after done (refused k) = refused k
-after done (told rs) = told (done ++ rs)
+after : List SlotRecord → Result (List SlotRecord) Refusal → Result (List SlotRecord) Refusal
+after done (Err k) = Err k
+after done (Ok rs) = Ok (done ++ rs)
 
-after_none : (y : Told (List SlotRecord)) → y ≡ after [] y
+after_none : (y : Result (List SlotRecord) Refusal) → y ≡ after [] y
 unfolding after
-after_none (refused k) = refl
-after_none (told rs) = refl
+after_none (Err k) = refl
+after_none (Ok rs) = refl
 
-after_one : (done : List SlotRecord) (r : SlotRecord) (y : Told (List SlotRecord)) → after done (then_records (told r) y) ≡ after (done ++ r ∷ []) y
+after_one : (done : List SlotRecord) (r : SlotRecord) (y : Result (List SlotRecord) Refusal) → after done (then_records (Ok r) y) ≡ after (done ++ r ∷ []) y
 unfolding after then_records
-after_one done r (refused k) = refl
-after_one done r (told rs) = ap told (sym (append_assoc done (r ∷ []) rs))
+after_one done r (Err k) = refl
+after_one done r (Ok rs) = ap Ok (sym (append_assoc done (r ∷ []) rs))
 
 pub record RecordsLoop (mpeg1 slow : Bool) (n : ℕ) (s : List ℕ) (start : ℕ) (slots : List SlotRecord) (at i : ℕ) : Type 0 where
   pub done : List SlotRecord
@@ -88,18 +85,19 @@ module _ {mpeg1 slow : Bool} {n : ℕ} {s : List ℕ} {start : ℕ} {slots : Lis
       l.same ∙ ap (λ (k : ℕ). after l.done (rest mpeg1 slow s k at)) q ∙ ap (after l.done) (rest-step mpeg1 slow s (n - (i + 1)) at)
 
   -- a record is refused
-  pub records-stop : {v : Verdict} {x : SlotRecord} {r : Refusal} → Gives v x (record_of mpeg1 slow (record_bits mpeg1 s at)) → v ≡ Refused r → i < n
-      → Gives v slots (filled n (records_of mpeg1 slow n (bits s start (n * record_width mpeg1))))
+  pub records-stop : {r : Refusal} → record_of mpeg1 slow (record_bits mpeg1 s at) ≡ Err r → i < n
+      → Err r ≡ filled n (records_of mpeg1 slow n (bits s start (n * record_width mpeg1)))
   unfolding after then_records
-  records-stop {v} {x} {r} a e h =
-      gives_none e
+  records-stop e h =
+      sym
       (ap (filled n)
-      (one_more h ∙ ap (λ (t : Told SlotRecord). after l.done (then_records t (rest mpeg1 slow s (n - (i + 1)) (at + record_width mpeg1)))) (given_none a e)))
+      (one_more h
+      ∙ ap (λ (t : Result SlotRecord Refusal). after l.done (then_records t (rest mpeg1 slow s (n - (i + 1)) (at + record_width mpeg1)))) e))
 
   -- or read
-  pub records-turn : {v : Verdict} {x : SlotRecord} {w : ℕ} → Gives v x (record_of mpeg1 slow (record_bits mpeg1 s at)) → v ≡ Accepted → w ≡ record_width mpeg1
-      → i < n → n ≤ 4 → RecordsLoop mpeg1 slow n s start (set slots i x) (at + w) (i + 1)
-  records-turn {v} {x} {w} a e f h m = record {
+  pub records-turn : {x : SlotRecord} {w : ℕ} → record_of mpeg1 slow (record_bits mpeg1 s at) ≡ Ok x → w ≡ record_width mpeg1 → i < n → n ≤ 4
+      → RecordsLoop mpeg1 slow n s start (set slots i x) (at + w) (i + 1)
+  records-turn {x} {w} e f h m = record {
     done = l.done ++ x ∷ [];
     some = omega arith;
     count = length-append l.done (x ∷ []) ∙ ap (λ (k : ℕ). k + 1) l.count;
@@ -107,19 +105,18 @@ module _ {mpeg1 slow : Bool} {n : ℕ} {s : List ℕ} {start : ℕ} {slots : Lis
     held = stored 4 i absent x l.done l.count (omega arith) l.held;
     same =
         one_more h
-        ∙ ap (λ (t : Told SlotRecord). after l.done (then_records t (rest mpeg1 slow s (n - (i + 1)) (at + record_width mpeg1)))) (given_told a e)
+        ∙ ap (λ (t : Result SlotRecord Refusal). after l.done (then_records t (rest mpeg1 slow s (n - (i + 1)) (at + record_width mpeg1)))) e
         ∙ after_one l.done x (rest mpeg1 slow s (n - (i + 1)) (at + record_width mpeg1))
         ∙ ap (λ (k : ℕ). after (l.done ++ x ∷ []) (rest mpeg1 slow s (n - (i + 1)) (at + k))) (sym f);
   }
 
-  pub records-end : n ≤ i → Gives Accepted slots (filled n (records_of mpeg1 slow n (bits s start (n * record_width mpeg1))))
+  pub records-end : n ≤ i → Ok slots ≡ filled n (records_of mpeg1 slow n (bits s start (n * record_width mpeg1)))
   unfolding after records_of
   records-end h =
       let q : n - i ≡ 0 = omega arith in
       let p : i ≡ n = omega (arith, l.some) in
-      gives_told refl
-      (ap (filled n) (l.same ∙ ap (λ (k : ℕ). after l.done (rest mpeg1 slow s k at)) q ∙ ap told (append-nil l.done))
-      ∙ sym (ap told (l.held ∙ ap (λ (k : ℕ). l.done ++ replicate (4 - k) absent) p)))
+      ap Ok (l.held ∙ ap (λ (k : ℕ). l.done ++ replicate (4 - k) absent) p)
+      ∙ sym (ap (filled n) (l.same ∙ ap (λ (k : ℕ). after l.done (rest mpeg1 slow s k at)) q ∙ ap Ok (append-nil l.done)))
 
 -- ---- sharing bits
 pub record SharesLoop (s : List ℕ) (at n : ℕ) (shares : List Bool) (i : ℕ) : Type 0 where

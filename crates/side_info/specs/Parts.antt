@@ -1,11 +1,14 @@
 -- A slot's record in the parts that are read one by one: what every record has, and the 23 bits of its window, from the flag on.
-use Rattle.std.specs.Prelude.{◌≡◌, Bool, List, ◌++◌, ℕ, ◌+◌, ◌-◌, replicate}
-use Rattle.standard.specs.Told.{Told, refused, told, verdict_of}
+use Rattle.std.specs.Prelude.{◌≡◌, Bool, List, ◌++◌, ℕ, ◌+◌, ◌-◌, ◌*◌, replicate, Result, Ok, Err}
 use Rattle.standard.specs.Bits.{bits, field, field_at, flag}
+use Rattle.standard.specs.Header.{is_mpeg1, is_two, is_slow, header_size, side_bytes}
 use Rattle.standard.specs.Record.{absent, compress_width, record_width, preflag_of, scale_at, count1_at}
+use Rattle.standard.specs.SideInfo.{side_in}
+use Rattle.standard.specs.declared.FrameHeader.{FrameHeader}
 use Rattle.standard.specs.declared.SlotRecord.{SlotRecord}
-use Rattle.standard.specs.declared.Verdict.{Verdict}
+use Rattle.standard.specs.declared.SideInfo.{SideInfo}
 use Rattle.side_info.specs.declared.record.Common.{Common}
+use Rattle.standard.specs.declared.Refusal.{Refusal}
 
 unfoldable pub common_of : Bool → List Bool → Common
 common_of mpeg1 b =
@@ -28,12 +31,13 @@ pub record PartsAt (mpeg1 : Bool) (s : List ℕ) (at : ℕ) (k : Common) (w : �
   pub common : k ≡ common_of mpeg1 (record_bits mpeg1 s at)
   pub window : w ≡ field_at s (at + 29 + compress_width mpeg1) 23
 
--- a verdict and a value beside it give a reading: the value is what was read, and where it was refused nothing is said of it
-pub record Gives {A : Type 0} (v : Verdict) (a : A) (t : Told A) : Type 0 where
-  pub verdict : v ≡ verdict_of t
-  pub value : (x : A) → t ≡ told x → a ≡ x
-
 -- the records of n slots among four, the rest lacking
-abbrev pub filled : ℕ → Told (List SlotRecord) → Told (List SlotRecord)
-filled n (refused k) = refused k
-filled n (told rs) = told (rs ++ replicate (4 - n) absent)
+abbrev pub filled : ℕ → Result (List SlotRecord) Refusal → Result (List SlotRecord) Refusal
+filled n (Err k) = Err k
+filled n (Ok rs) = Ok (rs ++ replicate (4 - n) absent)
+
+-- what the bits after a header spell
+abbrev pub side_after : FrameHeader → List ℕ → Result SideInfo Refusal
+side_after h s =
+    side_in (is_mpeg1 h.version) (is_two h.channels) (is_slow h.rate)
+    (bits s (8 * header_size h) (8 * side_bytes (is_mpeg1 h.version) (is_two h.channels)))

@@ -1,39 +1,42 @@
 // A frame's side information, read from its bytes.
 #![tactic(auto)]
 
-ghost use Rattle.standard.specs.Refusals.{Answers};
-ghost use Rattle.standard.specs.SideInfo.{no_side, side_under, side_of};
+ghost use Rattle.std.specs.Prelude.{◌≡◌};
+ghost use Rattle.standard.specs.SideInfo.{side_under, side_of};
 
-use crate::side::{no_side, read_after};
-use derived::{header_size, is_mpeg1, is_slow, is_two};
+use crate::side::{needed_from, read_bits};
+use crc::fits;
+use derived::{header_size, side_size};
 use header::is_header;
-use standard::{FrameHeader, Refusal, SideInfoAnswer};
+use standard::{FrameHeader, Refusal, SideInfo};
 
 mod record;
 pub mod side;
 mod slot_records;
-mod words;
 
 // The side information under a header, whatever it has: whether bytes read to it is not asked.
-pub fn side_under(h: FrameHeader, frame: &[u8]) -> SideInfoAnswer
-    ensures { Answers no_side result.verdict result.info (side_under h frame.now) }
+#[tactic(auto, using(crate::proofs::Sides::header_small, crate::proofs::Sides::side_small))]
+pub fn side_under(h: FrameHeader, frame: &[u8]) -> Result<SideInfo, Refusal>
+    ensures { result ≡ side_under h frame.now }
 {
-    let version = h.version;
-    let channels = h.channels;
-    let rate = h.rate;
-    let crc = h.crc;
     let from = header_size(h);
-    let mpeg1 = is_mpeg1(version);
-    let two = is_two(channels);
-    read_after(frame, crc, from, mpeg1, two, is_slow(rate))
+    let end = from + side_size(h);
+    if frame.len() < end {
+        let offset = needed_from(h).max(frame.len()) as u16;
+        return Err(Refusal::AbsentBytes { offset });
+    }
+    if h.crc && !fits(frame, end) {
+        return Err(Refusal::WrongCrc);
+    }
+    read_bits(h, frame)
 }
 
 // The side information of a frame under its header, from the frame's bytes, the header's first.
-pub fn read_side_info(h: FrameHeader, frame: &[u8]) -> SideInfoAnswer
-    ensures { Answers no_side result.verdict result.info (side_of h frame.now) }
+pub fn read_side_info(h: FrameHeader, frame: &[u8]) -> Result<SideInfo, Refusal>
+    ensures { result ≡ side_of h frame.now }
 {
     if !is_header(h) {
-        return no_side(Refusal::MadeUpRecord);
+        return Err(Refusal::MadeUpRecord);
     }
     side_under(h, frame)
 }

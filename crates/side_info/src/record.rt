@@ -1,16 +1,15 @@
 // A slot's record, read from its bits in two parts: what every record has (k), and the 23 bits of its window, from the flag on (w).
 // Only scalefac_compress and what comes after the window differ between the versions.
-ghost use Rattle.std.specs.Prelude.{◌≡◌, Bool, List, ℕ, ◌+◌, ◌≤◌, ◌<◌};
-ghost use Rattle.standard.specs.Told.{told, verdict_of};
+ghost use Rattle.std.specs.Prelude.{◌≡◌, Bool, List, ℕ, ◌<◌};
 ghost use Rattle.standard.specs.Bits.{field};
+ghost use Rattle.standard.specs.Header.{is_mpeg1, is_slow};
 ghost use Rattle.standard.specs.Record.{absent, block_of, compress_width, record_width, long_of, switched_of, record_of, preflag_of};
-ghost use Rattle.side_info.specs.Parts.{common_of, record_bits, PartsAt, Gives};
+ghost use Rattle.side_info.specs.Parts.{common_of, record_bits, PartsAt};
 
-use crate::words::word;
-use bits::bit;
-use derived::{is_mixed, shape_of};
+use bits::{bit, field, word};
+use derived::{is_mixed, is_mpeg1, is_slow, shape_of};
 use record_check::given::{compress_width, first_region, second_region};
-use standard::{BlockType, MOST_BIG_VALUES, Refusal, SlotRecord, Verdict};
+use standard::{BlockType, FrameHeader, MOST_BIG_VALUES, Refusal, SlotRecord};
 
 // What every record has, whatever its window.
 #[derive(Clone, Copy)]
@@ -24,14 +23,8 @@ pub(crate) struct Common {
     pub count1table_select: bool,
 }
 
-// A record; of a refused one, what stands in the slot says nothing.
-#[derive(Clone, Copy)]
-pub(crate) struct RecordAnswer {
-    pub verdict: Verdict,
-    pub slot: SlotRecord,
-}
-
-pub(crate) fn record_width(mpeg1: bool) -> usize
+// The bits of a record.
+pub(crate) fn record_width(mpeg1: bool) -> u16
     ensures { result ≡ record_width mpeg1 }
 {
     if mpeg1 {
@@ -40,7 +33,7 @@ pub(crate) fn record_width(mpeg1: bool) -> usize
     63
 }
 
-// block_type
+// block_type, of the two bits that spell it; a function, since `standard` holds no code.
 pub(crate) fn block_of(t: u64) -> BlockType
     requires { t < 4 }
     ensures { result ≡ block_of t }
@@ -135,65 +128,53 @@ pub(crate) fn absent_record() -> SlotRecord
     }
 }
 
-// The first fault of a record, if it has one.
-pub(crate) fn verdict_of(pairs: u16, w: u64, slow: bool) -> Verdict
-    ensures { (mpeg1 : Bool) (s : List ℕ) (at : ℕ) (k : Common) → PartsAt mpeg1 s at k w → pairs ≡ k.big_values
-        → result ≡ verdict_of (record_of mpeg1 slow (record_bits mpeg1 s at)) }
+// The record of these parts, or its first fault.
+pub(crate) fn record_of(k: Common, w: u64, slow: bool) -> Result<SlotRecord, Refusal>
+    ensures { (mpeg1 : Bool) (s : List ℕ) (at : ℕ) → PartsAt mpeg1 s at k w → result ≡ record_of mpeg1 slow (record_bits mpeg1 s at) }
 {
+    let pairs = k.big_values;
     if MOST_BIG_VALUES < pairs {
-        return Verdict::Refused(Refusal::TooManyPairs);
+        return Err(Refusal::TooManyPairs);
     }
     let switched = (w >> 22) % 2;
     if switched != 1 {
-        return Verdict::Accepted;
+        return Ok(long_record(k, w));
     }
     let t = (w >> 20) % 4;
     if t == 0 {
-        return Verdict::Refused(Refusal::ForbiddenBlock);
+        return Err(Refusal::ForbiddenBlock);
     }
     let block = block_of(t);
-    let shape = shape_of(block, (w >> 19) % 2 == 1);
+    let mixed = (w >> 19) % 2 == 1;
+    let shape = shape_of(block, mixed);
     if slow & is_mixed(shape) {
-        return Verdict::Refused(Refusal::MixedBlock);
+        return Err(Refusal::MixedBlock);
     }
-    Verdict::Accepted
-}
-
-// The record, where it has no fault.
-pub(crate) fn slot_of(k: Common, w: u64) -> SlotRecord
-    ensures { (mpeg1 slow : Bool) (s : List ℕ) (at : ℕ) (a : SlotRecord) → PartsAt mpeg1 s at k w
-        → record_of mpeg1 slow (record_bits mpeg1 s at) ≡ told a → result ≡ a }
-{
-    let switched = (w >> 22) % 2;
-    if switched != 1 {
-        return long_record(k, w);
-    }
-    let block = block_of((w >> 20) % 4);
-    switched_record(k, w, block, (w >> 19) % 2 == 1)
+    Ok(switched_record(k, w, block, mixed))
 }
 
 // Read in MPEG-1 only; else it goes by scalefac_compress.
-pub(crate) fn read_preflag(s: &[u8], at: usize, mpeg1: bool, compress: u16) -> bool
-    requires { at ≤ 1024 }
+pub(crate) fn read_preflag(s: &[u8], at: u16, mpeg1: bool, compress: u16) -> bool
     ensures { compress ≡ field (record_bits mpeg1 s.now at) 29 (compress_width mpeg1)
         → result ≡ preflag_of mpeg1 (record_bits mpeg1 s.now at) }
 {
     if !mpeg1 {
         return 500 <= compress;
     }
-    bit(s, at + 56)
+    bit(s, at as usize + 56)
 }
 
 // What every record has, of the one whose bits start at a place.
-pub(crate) fn read_common(s: &[u8], at: usize, mpeg1: bool) -> Common
-    requires { at ≤ 1024 }
+#[tactic(auto, using(record_check::proofs::Widths::width))]
+pub(crate) fn read_common(s: &[u8], at: u16, mpeg1: bool) -> Common
     ensures { result ≡ common_of mpeg1 (record_bits mpeg1 s.now at) }
 {
-    let head = word(s, at, 29);
+    let from = at as usize;
+    let head = word(s, from, 29);
     let c = compress_width(mpeg1);
-    let compress = word(s, at + 29, c) as u16;
+    let compress = field(s, from + 29, c);
     let preflag = read_preflag(s, at, mpeg1, compress);
-    let end = at + record_width(mpeg1);
+    let end = from + record_width(mpeg1) as usize;
     let scale = bit(s, end - 2);
     let count1 = bit(s, end - 1);
     Common {
@@ -207,15 +188,14 @@ pub(crate) fn read_common(s: &[u8], at: usize, mpeg1: bool) -> Common
     }
 }
 
-// The record whose bits start at a place.
-pub(crate) fn read_record(s: &[u8], at: usize, mpeg1: bool, slow: bool) -> RecordAnswer
-    requires { at ≤ 1024 }
-    ensures { Gives result.verdict result.slot (record_of mpeg1 slow (record_bits mpeg1 s.now at)) }
+// The record whose bits start at a place, or its first fault.
+#[tactic(auto, using(record_check::proofs::Widths::width))]
+pub(crate) fn read_record(h: FrameHeader, s: &[u8], at: u16) -> Result<SlotRecord, Refusal>
+    ensures { result ≡ record_of (is_mpeg1 h.version) (is_slow h.rate) (record_bits (is_mpeg1 h.version) s.now at) }
 {
+    let mpeg1 = is_mpeg1(h.version);
     let k = read_common(s, at, mpeg1);
     let c = compress_width(mpeg1);
-    let w = word(s, at + 29 + c, 23);
-    let verdict = verdict_of(k.big_values, w, slow);
-    let slot = slot_of(k, w);
-    RecordAnswer { verdict, slot }
+    let w = word(s, at as usize + 29 + c, 23);
+    record_of(k, w, is_slow(h.rate))
 }

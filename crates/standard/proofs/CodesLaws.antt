@@ -1,7 +1,7 @@
 -- Reading a codeword goes bit by bit: a bit leaves the entries that start with it. And of each published code, shown once over the table
 -- number by a test that is computed over all tables: it is complete (whatever the bits are, they begin a codeword, so refusal 25 cannot
 -- occur), and has one reading (no codeword begins another).
-use Rattle.std.specs.Prelude.{◌≡◌, Bool, ◌&&◌, eqb, length}
+use Rattle.std.specs.Prelude.{◌≡◌, Bool, ◌&&◌, eqb, Ok, Err, length}
 use Rattle.std.proofs.Math.Path.{refl, ap}
 use Rattle.std.proofs.Common.{sym, ◌∙◌, arith, eqb-true, eq-eqb}
 use Rattle.std.proofs.Math.Bool.{true, false}
@@ -10,9 +10,8 @@ use Prim.Native.Nat.{ℕ, zero, suc}
 use Rattle.standard.specs.Told.{pick}
 use Rattle.standard.specs.ToldLaws.{never, both_of}
 use Rattle.standard.specs.RowsLaws.{every, every-at}
-use Rattle.standard.specs.Codes.{Entry, entry, low_bits, pair, quad, starts, first, begun, decode, silent, table1, table2, table3, table5, table6, table7, table8, table9, table10, table11, table12, table13, table15, table16, table24, table_a, table_b, codes, published}
-use Rattle.standard.specs.declared.Codeword.{Codeword}
-use Rattle.standard.specs.declared.Codeword.TheVariants.{Coded, Cut, Alien}
+use Rattle.standard.specs.Codes.{taken, Codeword, Entry, entry, low_bits, pair, quad, starts, first, begun, decode, silent, table1, table2, table3, table5, table6, table7, table8, table9, table10, table11, table12, table13, table15, table16, table24, table_a, table_b, codes, published}
+use Rattle.standard.specs.declared.Unread.TheVariants.{Cut, Alien}
 
 -- ---- one bit
 -- the entries that start with a bit, without it
@@ -44,9 +43,8 @@ lone v (entry u w ∷ (e ∷ es)) = false
 
 -- one bit more was used
 unfoldable pub more : Codeword → Codeword
-more (Coded v n) = Coded v (suc n)
-more Cut = Cut
-more Alien = Alien
+more (Ok c) = Ok (taken c.value (suc c.used))
+more (Err e) = Err e
 
 more-pick : (t : Bool) (x y : Codeword) → pick t (more x) (more y) ≡ more (pick t x y)
 unfolding pick
@@ -59,13 +57,13 @@ unfolding first starts pick more
 first-after [] b bs o t = refl
 first-after (entry v [] ∷ es) b bs o t = never t
 first-after (entry v (true ∷ w) ∷ es) true bs o t =
-    ap (λ (x : Codeword). pick (starts w bs) (Coded v (suc (length w))) x) (first-after es true bs o t)
-    ∙ more-pick (starts w bs) (Coded v (length w)) (first (after true es) bs o)
+    ap (λ (x : Codeword). pick (starts w bs) (Ok (taken v (suc (length w)))) x) (first-after es true bs o t)
+    ∙ more-pick (starts w bs) (Ok (taken v (length w))) (first (after true es) bs o)
 first-after (entry v (true ∷ w) ∷ es) false bs o t = first-after es false bs o t
 first-after (entry v (false ∷ w) ∷ es) true bs o t = first-after es true bs o t
 first-after (entry v (false ∷ w) ∷ es) false bs o t =
-    ap (λ (x : Codeword). pick (starts w bs) (Coded v (suc (length w))) x) (first-after es false bs o t)
-    ∙ more-pick (starts w bs) (Coded v (length w)) (first (after false es) bs o)
+    ap (λ (x : Codeword). pick (starts w bs) (Ok (taken v (suc (length w)))) x) (first-after es false bs o t)
+    ∙ more-pick (starts w bs) (Ok (taken v (length w))) (first (after false es) bs o)
 
 begun-after : (es : List Entry) (b : Bool) (bs : List Bool) → begun es (b ∷ bs) ≡ begun (after b es) bs
 unfolding begun starts
@@ -86,7 +84,7 @@ inner-open : (es : List Entry) → inner es ≡ true → open_all es ≡ true
 inner-open [] t = never t
 inner-open (e ∷ es) t = t
 
-more-last : (t : Bool) → more (pick t Cut Alien) ≡ pick t Cut Alien
+more-last : (t : Bool) → more (pick t (Err Cut) (Err Alien)) ≡ pick t (Err Cut) (Err Alien)
 unfolding more pick
 more-last true = refl
 more-last false = refl
@@ -94,18 +92,18 @@ more-last false = refl
 pub decode-bit : (es : List Entry) (b : Bool) (bs : List Bool) → inner es ≡ true → decode es (b ∷ bs) ≡ more (decode (after b es) bs)
 unfolding decode
 decode-bit es b bs t =
-    ap (first es (b ∷ bs)) (ap (λ (z : Bool). pick z Cut Alien) (begun-after es b bs) ∙ sym (more-last (begun (after b es) bs)))
-    ∙ first-after es b bs (pick (begun (after b es) bs) Cut Alien) (inner-open es t)
+    ap (first es (b ∷ bs)) (ap (λ (z : Bool). pick z (Err Cut) (Err Alien)) (begun-after es b bs) ∙ sym (more-last (begun (after b es) bs)))
+    ∙ first-after es b bs (pick (begun (after b es) bs) (Err Cut) (Err Alien)) (inner-open es t)
 
-pub decode-end : (es : List Entry) → inner es ≡ true → decode es [] ≡ Cut
+pub decode-end : (es : List Entry) → inner es ≡ true → decode es [] ≡ Err Cut
 unfolding decode begun starts pick
 decode-end [] t = never t
-decode-end (entry v w ∷ es) t = first-end (entry v w ∷ es) Cut t
+decode-end (entry v w ∷ es) t = first-end (entry v w ∷ es) (Err Cut) t
 
-pub decode-leaf : (v : ℕ) (es : List Entry) (b : List Bool) → lone v es ≡ true → decode es b ≡ Coded v 0
+pub decode-leaf : (v : ℕ) (es : List Entry) (b : List Bool) → lone v es ≡ true → decode es b ≡ Ok (taken v 0)
 unfolding decode first starts pick
 decode-leaf v [] b t = never t
-decode-leaf v (entry u [] ∷ []) b t = ap (λ (n : ℕ). Coded n 0) (eqb-true u v t)
+decode-leaf v (entry u [] ∷ []) b t = ap (λ (n : ℕ). Ok (taken n 0)) (eqb-true u v t)
 decode-leaf v (entry u (c ∷ w) ∷ []) b t = never t
 decode-leaf v (entry u w ∷ (e ∷ es)) b t = never t
 
@@ -131,13 +129,13 @@ left_whole f v x w es t b = pack b
     pack false = (parts.0, (both_of (whole f (after false (entry v (x ∷ w) ∷ es))) _ parts.1).0)
     pack true = (parts.0, (both_of (whole f (after false (entry v (x ∷ w) ∷ es))) _ parts.1).1)
 
-alien_more : (c : Codeword) → more c ≡ Alien → c ≡ Alien
+alien_more : (c : Codeword) → more c ≡ Err Alien → c ≡ Err Alien
 unfolding more
-alien_more (Coded v n) e = let z : ◌≡◌ {A = ℕ} 0 1 = cc in let w : ⊥ = omega arith in absurd w
-alien_more Cut e = let z : ◌≡◌ {A = ℕ} 0 1 = cc in let w : ⊥ = omega arith in absurd w
-alien_more Alien e = refl
+alien_more (Ok c) e = let z : ◌≡◌ {A = ℕ} 0 1 = cc in let w : ⊥ = omega arith in absurd w
+alien_more (Err Cut) e = let z : ◌≡◌ {A = ℕ} 0 1 = cc in let w : ⊥ = omega arith in absurd w
+alien_more (Err Alien) e = refl
 
-complete_from : (f : ℕ) (es : List Entry) → whole f es ≡ true → (b : List Bool) → decode es b ≡ Alien → ⊥
+complete_from : (f : ℕ) (es : List Entry) → whole f es ≡ true → (b : List Bool) → decode es b ≡ Err Alien → ⊥
 unfolding whole
 complete_from zero es t b e = never t
 complete_from (suc f) [] t b e = never t
@@ -173,13 +171,13 @@ module _ (v : ℕ) where
   in_after false w (there {a = entry u (false ∷ z)} i) = there (in_after false w i)
 
   -- of a code's only entry, that is out of bits
-  last_one : (u : ℕ) (w : List Bool) → In (entry v w) (entry u [] ∷ []) → (b : List Bool) → decode (entry u [] ∷ []) b ≡ Coded v (length w)
+  last_one : (u : ℕ) (w : List Bool) → In (entry v w) (entry u [] ∷ []) → (b : List Bool) → decode (entry u [] ∷ []) b ≡ Ok (taken v (length w))
   unfolding decode first starts pick
   last_one u w here b = refl
   last_one u w (there i) b = elim i [ ]
 
   only-from : (f : ℕ) (es : List Entry) → whole f es ≡ true → (w : List Bool) → In (entry v w) es → (b : List Bool) → starts w b ≡ true
-      → decode es b ≡ Coded v (length w)
+      → decode es b ≡ Ok (taken v (length w))
   unfolding whole starts more
   only-from zero es t w i b s = never t
   only-from (suc f) [] t w i b s = never t
@@ -210,9 +208,9 @@ unfolding published
 published-whole t = every-at (whole 20) silent codes silent-whole all_whole t
 
 -- whatever the bits are, they begin a codeword of the table
-pub complete : (t : ℕ) (b : List Bool) → decode (published t) b ≡ Alien → ⊥
+pub complete : (t : ℕ) (b : List Bool) → decode (published t) b ≡ Err Alien → ⊥
 complete t b e = complete_from 20 (published t) (published-whole t) b e
 
 -- whichever codeword the bits start with is the one that is read
-pub one-reading : (t v : ℕ) (w : List Bool) → In (entry v w) (published t) → (b : List Bool) → starts w b ≡ true → decode (published t) b ≡ Coded v (length w)
+pub one-reading : (t v : ℕ) (w : List Bool) → In (entry v w) (published t) → (b : List Bool) → starts w b ≡ true → decode (published t) b ≡ Ok (taken v (length w))
 one-reading t v w i b s = only-from v 20 (published t) (published-whole t) w i b s

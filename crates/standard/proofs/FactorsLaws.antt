@@ -1,6 +1,6 @@
 -- Laws of scale factors. A plan is read source by source, part after part, and by its own bits alone; every plan is four groups, of 21
 -- factors or 36, and of at most 5 bits a factor, whatever a record says; and what is not shared does not go by granule 0.
-use Rattle.std.specs.Prelude.{◌≡◌, refl, Bool, true, false, ◌&&◌, List, [], ◌∷◌, ◌++◌, ℕ, zero, suc, ◌+◌, ◌*◌, ◌/◌, ◌%◌, ◌<◌, ◌≤◌, ltb, leb, eqb, length, get_or, take, drop, replicate}
+use Rattle.std.specs.Prelude.{◌≡◌, refl, Bool, true, false, ◌&&◌, All, List, [], ◌∷◌, ◌++◌, ℕ, zero, suc, ◌+◌, ◌*◌, ◌/◌, ◌%◌, ◌<◌, ◌≤◌, ltb, leb, eqb, length, get_or, take, drop, replicate}
 use Rattle.std.proofs.Common.{sym, ap, ◌∙◌, subst, zero-add, zero-mul, suc-mul, le_refl, mul-le-mul, arith, lt-ltb, le-ltb, leb-true, eqb-true, length-append, length-drop, take-take, drop-drop}
 use Rattle.std.proofs.Math.Decide.{dec_lt}
 use Rattle.std.proofs.Math.ListN.{length-replicate}
@@ -13,9 +13,10 @@ use Rattle.standard.specs.RowsLaws.{every, every-at, every_in}
 use Rattle.standard.specs.Lengths.{slen_rows, slen1, slen2, low_range, ordinary_lengths, intensity_lengths, low_lengths, long_counts, short_counts, mixed_counts, intensity_long_counts, intensity_short_counts, intensity_mixed_counts, count_rows, low_counts}
 use Rattle.standard.specs.LengthsLaws.{range_lt}
 use Rattle.standard.specs.Record.{shape_of}
-use Rattle.standard.specs.Factors.{Source, shared, coded, plan_by, plan_of, group, groups_from, sources_of, may_share, plan_bits, factors_from, long_count, short_count, short_from, factor_count, width_of, factor_by, short_factors, bands_of}
+use Rattle.standard.specs.Factors.{Source, shared, coded, planned, plan_by, plan_of, source_of, group, groups_from, sources_of, may_share, plan_bits, factors_from, long_count, short_count, short_from, factor_count, width_of, factor_by, short_factors, bands_of}
 use Rattle.standard.specs.declared.SlotRecord.{SlotRecord}
 use Rattle.standard.specs.declared.Setting.{Setting}
+use Rattle.standard.specs.declared.Group.{Group}
 use Rattle.standard.specs.declared.Plan.{Plan}
 use Rattle.standard.specs.declared.Shape.{Shape}
 use Rattle.standard.specs.declared.Shape.TheVariants.{AllLong, AllShort, LongThenShort}
@@ -101,20 +102,9 @@ low-total true AllLong = three_rows 21 intensity_long_counts refl refl
 low-total true AllShort = three_rows 36 intensity_short_counts refl refl
 low-total true LongThenShort = three_rows 33 intensity_mixed_counts refl refl
 
-counts_total : (mpeg1 intensity : Bool) (shares : List Bool) (k : Shape) (c : ℕ) → total (plan_by mpeg1 intensity shares k c).counts ≡ factor_count mpeg1 k
-unfolding total plan_by low_counts
-counts_total true intensity shares AllLong c = refl
-counts_total true intensity shares AllShort c = refl
-counts_total true intensity shares LongThenShort c = refl
-counts_total false intensity shares k c = low-total intensity k (low_range intensity (c % 512)) (range_lt intensity (c % 512))
-
-groups_total : (p : Plan) → length (sources_of p) ≡ total p.counts
+groups_total : (ns ws : List ℕ) (xs : List Bool) → length (sources_of (planned ns ws xs)) ≡ total ns
 unfolding group groups_from total
-groups_total p = simp (length-append, length-replicate) (omega arith)
-
-pub plan-length : (g : Setting) (r : SlotRecord) → length (sources_of (plan_of g r)) ≡ factor_count g.mpeg1 (shape_of r)
-unfolding plan_of
-plan-length g r = groups_total (plan_of g r) ∙ counts_total g.mpeg1 g.intensity g.shares (shape_of r) r.scalefac_compress
+groups_total ns ws xs = simp (length-append, length-replicate) (omega arith)
 
 pub few_factors : (mpeg1 : Bool) (k : Shape) → factor_count mpeg1 k ≤ 36
 few_factors mpeg1 AllLong = omega arith
@@ -157,110 +147,161 @@ intensity_small c h =
     (λ l. by_test Small c 244 (λ m. small-four (omega arith) (omega arith) (omega arith) (omega arith))
     (λ m. small-four (omega arith) (omega arith) (omega arith) (omega arith)))
 
-pub lengths_small : (mpeg1 intensity : Bool) (shares : List Bool) (k : Shape) (c g : ℕ) → get_or (plan_by mpeg1 intensity shares k c).lengths g 0 ≤ 5
-unfolding plan_by low_lengths
-lengths_small true intensity shares AllLong c = let w = slen_small c in small-four w.0 w.0 w.1 w.1
-lengths_small true intensity shares AllShort c = let w = slen_small c in small-four w.0 w.1 (omega arith) (omega arith)
-lengths_small true intensity shares LongThenShort c =
-    let w = slen_small c in small-four (omega (arith, w)) (omega (arith, w)) (omega (arith, w)) (omega arith)
-lengths_small false false shares k c = ordinary_small (c % 512) (omega arith)
-lengths_small false true shares k c = intensity_small (c % 512 / 2) (omega arith)
+abbrev pub Narrow : Group → Type 0
+Narrow g = g.length ≤ 5
 
-pub source_small : (x : Bool) (w : ℕ) → w ≤ 5 → width_of (pick x shared (coded w)) ≤ 5
+each-four : {A : Type 0} (P : A → Type 0) {a b c d : A} → P a → P b → P c → P d → All P (a ∷ b ∷ c ∷ d ∷ [])
+each-four P p q r s zero e h = p
+each-four P p q r s (suc zero) e h = q
+each-four P p q r s (suc (suc zero)) e h = r
+each-four P p q r s (suc (suc (suc zero))) e h = s
+each-four P p q r s (suc (suc (suc (suc g)))) e h = absurd (omega arith)
+
+-- the members but the first
+each-rest : {A : Type 0} (P : A → Type 0) (a : A) (l : List A) → All P (a ∷ l) → All P l
+each-rest P a l h k e w = h (suc k) e (omega arith)
+
+width_small : (x : Bool) {w : ℕ} → w ≤ 5 → width_of (pick x shared (coded w)) ≤ 5
 unfolding pick
-source_small true w h = omega arith
-source_small false w h = h
+width_small true h = omega arith
+width_small false h = h
+
+pub source_small : (g : Group) → Narrow g → width_of (source_of g) ≤ 5
+source_small g h = width_small g.shared h
 
 copies_bits : (n : ℕ) (x : Source) → plan_bits (replicate n x) ≡ n * width_of x
 unfolding plan_bits
 copies_bits zero x = sym (zero-mul (width_of x))
 copies_bits (suc n) x = omega (arith, plan-bits_cons x (replicate n x), copies_bits n x, suc-mul n (width_of x))
 
-module _ (p : Plan) (g : ℕ) where
-  pub group-bits : plan_bits (group p g) ≡ get_or p.counts g 0 * width_of (pick (get_or p.shares g false) shared (coded (get_or p.lengths g 0)))
+module _ (g : Group) where
+  pub group-bits : plan_bits (group g) ≡ g.count * width_of (source_of g)
   unfolding group
-  group-bits = copies_bits (get_or p.counts g 0) (pick (get_or p.shares g false) shared (coded (get_or p.lengths g 0)))
+  group-bits = copies_bits g.count (source_of g)
 
-  pub group-length : length (group p g) ≡ get_or p.counts g 0
+  pub group-length : length (group g) ≡ g.count
   unfolding group
-  group-length = length-replicate (get_or p.counts g 0) (pick (get_or p.shares g false) shared (coded (get_or p.lengths g 0)))
+  group-length = length-replicate g.count (source_of g)
 
-  pub group-small : get_or p.lengths g 0 ≤ 5 → plan_bits (group p g) ≤ 5 * get_or p.counts g 0
-  group-small h =
-      let most = mul-le-mul (le_refl (get_or p.counts g 0)) (source_small (get_or p.shares g false) (get_or p.lengths g 0) h) in
-      omega (arith, group-bits)
+  pub group-small : Narrow g → plan_bits (group g) ≤ 5 * g.count
+  group-small h = let most = mul-le-mul (le_refl g.count) (source_small g h) in omega (arith, group-bits)
 
-pub groups_small : (p : Plan) → ((g : ℕ) → get_or p.lengths g 0 ≤ 5) → (g k : ℕ) → plan_bits (groups_from p g k) ≤ 5 * length (groups_from p g k)
+pub groups_small : (gs : List Group) → All Narrow gs → plan_bits (groups_from gs) ≤ 5 * length (groups_from gs)
 unfolding groups_from plan_bits
-groups_small p h g zero = omega arith
-groups_small p h g (suc k) =
+groups_small [] h = omega arith
+groups_small (g ∷ gs) h =
     omega (
       arith,
-      plan-bits_append (group p g) (groups_from p (suc g) k),
-      length-append (group p g) (groups_from p (suc g) k),
-      group-length p g,
-      group-small p g
-          (h g),
-      groups_small p h (suc g) k,
+      plan-bits_append (group g) (groups_from gs),
+      length-append (group g) (groups_from gs),
+      group-length g,
+      group-small g (h 0 g (omega arith)),
+      groups_small gs (each-rest Narrow g gs h),
     )
 
-pub plan-small : (g : Setting) (r : SlotRecord) → plan_bits (sources_of (plan_of g r)) ≤ 180
-unfolding plan_of
-plan-small g r =
-    let q = groups_small (plan_of g r) (lengths_small g.mpeg1 g.intensity g.shares (shape_of r) r.scalefac_compress) 0 4 in
-    omega (arith, q, plan-length g r, few_factors g.mpeg1 (shape_of r))
-
--- ---- what is not shared does not go by granule 0
-abbrev pub Unshared : List Source → Type 0
-Unshared ps = (old old' : List ℕ) (b : List Bool) → factors_from ps old b ≡ factors_from ps old' b
+-- ---- what holds of the plan of every slot
+-- a group that is not shared
+abbrev pub Own : Group → Type 0
+Own g = g.shared ≡ false
 
 none-shared : (n g : ℕ) → get_or (replicate n false) g false ≡ false
 none-shared zero g = refl
 none-shared (suc n) zero = refl
 none-shared (suc n) (suc g) = none-shared n g
 
+-- so many factors, none of more than 5 bits; only long bands share, and only by a bit in force
+record Made (mpeg1 : Bool) (shares : List Bool) (k : Shape) (p : Plan) : Type 0 where
+  pub many : length (sources_of p) ≡ factor_count mpeg1 k
+  pub narrow : All Narrow p.groups
+  pub own : may_share k ≡ false → All Own p.groups
+  pub kept : ((g : ℕ) → get_or shares g false ≡ false) → All Own p.groups
+
+made : (mpeg1 : Bool) (shares : List Bool) (k : Shape) (ns ws : List ℕ) (xs : List Bool) → total ns ≡ factor_count mpeg1 k → Small ws
+    → (may_share k ≡ false → (g : ℕ) → get_or xs g false ≡ false)
+    → (((g : ℕ) → get_or shares g false ≡ false) → (g : ℕ) → get_or xs g false ≡ false) → Made mpeg1 shares k (planned ns ws xs)
+made mpeg1 shares k ns ws xs n h f g =
+    record {
+      many = groups_total ns ws xs ∙ n;
+      narrow = each-four Narrow (h 0) (h 1) (h 2) (h 3);
+      own = λ e. each-four Own (f e 0) (f e 1) (f e 2) (f e 3);
+      kept = λ e. each-four Own (g e 0) (g e 1) (g e 2) (g e 3);
+    }
+
+made_alone : (mpeg1 : Bool) (shares : List Bool) (k : Shape) (ns ws : List ℕ) → total ns ≡ factor_count mpeg1 k → Small ws
+    → Made mpeg1 shares k (planned ns ws (replicate 4 false))
+made_alone mpeg1 shares k ns ws n h = made mpeg1 shares k ns ws (replicate 4 false) n h (λ _. none-shared 4) (λ _. none-shared 4)
+
+low_small : (intensity : Bool) (c : ℕ) → Small (low_lengths intensity (c % 512))
+unfolding low_lengths
+low_small false c = ordinary_small (c % 512) (omega arith)
+low_small true c = intensity_small (c % 512 / 2) (omega arith)
+
+plan_by-made : (mpeg1 intensity : Bool) (shares : List Bool) (k : Shape) (c : ℕ) → Made mpeg1 shares k (plan_by mpeg1 intensity shares k c)
+unfolding plan_by total low_counts
+plan_by-made true intensity shares AllLong c =
+    let w = slen_small c in
+    made true shares AllLong (6 ∷ 5 ∷ 5 ∷ 5 ∷ []) (slen1 c ∷ slen1 c ∷ slen2 c ∷ slen2 c ∷ []) shares refl (small-four w.0 w.0 w.1 w.1)
+    (λ e. never (sym e)) (λ h. h)
+plan_by-made true intensity shares AllShort c =
+    let w = slen_small c in
+    made_alone true shares AllShort (18 ∷ 18 ∷ 0 ∷ 0 ∷ []) (slen1 c ∷ slen2 c ∷ 0 ∷ 0 ∷ []) refl (small-four w.0 w.1 (omega arith) (omega arith))
+plan_by-made true intensity shares LongThenShort c =
+    let w = slen_small c in
+    made_alone true shares LongThenShort (8 ∷ 9 ∷ 18 ∷ 0 ∷ []) (slen1 c ∷ slen1 c ∷ slen2 c ∷ 0 ∷ []) refl (small-four w.0 w.0 w.1 (omega arith))
+plan_by-made false intensity shares k c =
+    made_alone false shares k (low_counts intensity k (c % 512)) (low_lengths intensity (c % 512))
+    (low-total intensity k (low_range intensity (c % 512)) (range_lt intensity (c % 512))) (low_small intensity c)
+
+pub plan-length : (g : Setting) (r : SlotRecord) → length (sources_of (plan_of g r)) ≡ factor_count g.mpeg1 (shape_of r)
+unfolding plan_of
+plan-length g r = (plan_by-made g.mpeg1 g.intensity g.shares (shape_of r) r.scalefac_compress).many
+
+module _ (mpeg1 intensity : Bool) (shares : List Bool) (k : Shape) (c : ℕ) where
+  pub lengths_small : All Narrow (plan_by mpeg1 intensity shares k c).groups
+  lengths_small = (plan_by-made mpeg1 intensity shares k c).narrow
+
+  pub shape_unshares : may_share k ≡ false → All Own (plan_by mpeg1 intensity shares k c).groups
+  shape_unshares = (plan_by-made mpeg1 intensity shares k c).own
+
+  pub none-unshares : ((g : ℕ) → get_or shares g false ≡ false) → All Own (plan_by mpeg1 intensity shares k c).groups
+  none-unshares = (plan_by-made mpeg1 intensity shares k c).kept
+
+pub plan-small : (g : Setting) (r : SlotRecord) → plan_bits (sources_of (plan_of g r)) ≤ 180
+unfolding plan_of
+plan-small g r =
+    let q = groups_small (plan_of g r).groups (lengths_small g.mpeg1 g.intensity g.shares (shape_of r) r.scalefac_compress) in
+    omega (arith, q, plan-length g r, few_factors g.mpeg1 (shape_of r))
+
+-- ---- what is not shared does not go by granule 0
+abbrev pub Unshared : List Source → Type 0
+Unshared ps = (old old' : List ℕ) (b : List Bool) → factors_from ps old b ≡ factors_from ps old' b
+
 copies_unshared : (n w : ℕ) → Unshared (replicate n (coded w))
 unfolding factors_from
 copies_unshared zero w old old' b = refl
 copies_unshared (suc n) w old old' b = ap (λ (l : List ℕ). value (take w b) ∷ l) (copies_unshared n w (drop 1 old) (drop 1 old') (drop w b))
 
-groups_unshared : (p : Plan) → ((g : ℕ) → get_or p.shares g false ≡ false) → (g k : ℕ) → Unshared (groups_from p g k)
-unfolding pick group groups_from factors_from
-groups_unshared p h g zero old old' b = refl
-groups_unshared p h g (suc k) old old' b =
-    let n = get_or p.counts g 0 in
-    let w = get_or p.lengths g 0 in
-    let own = replicate n (pick (get_or p.shares g false) shared (coded w)) in
-    let rest = groups_from p (suc g) k in
-    let unshared : Unshared own = subst (λ (x : Bool). Unshared (replicate n (pick x shared (coded w)))) (sym (h g)) (copies_unshared n w) in
-    factors_append own rest old b
-    ∙ (λ j. unshared old old' b j ++ groups_unshared p h (suc g) k (drop (length own) old) (drop (length own) old') (drop (plan_bits own) b) j)
-    ∙ sym (factors_append own rest old' b)
+group_unshared : (g : Group) → Own g → Unshared (group g)
+unfolding pick group
+group_unshared g h = subst (λ (x : Bool). Unshared (replicate g.count (pick x shared (coded g.length)))) (sym h) (copies_unshared g.count g.length)
 
--- only long bands share, and only by a bit in force
-pub shape_unshares : (mpeg1 intensity : Bool) (shares : List Bool) (k : Shape) (c : ℕ) → may_share k ≡ false → (g : ℕ)
-    → get_or (plan_by mpeg1 intensity shares k c).shares g false ≡ false
-unfolding plan_by
-shape_unshares true intensity shares AllLong c e = never (sym e)
-shape_unshares true intensity shares AllShort c e = none-shared 4
-shape_unshares true intensity shares LongThenShort c e = none-shared 4
-shape_unshares false intensity shares k c e = none-shared 4
+groups_unshared : (gs : List Group) → All Own gs → Unshared (groups_from gs)
+unfolding groups_from factors_from
+groups_unshared [] h old old' b = refl
+groups_unshared (g ∷ gs) h old old' b =
+    let own = group g in
+    let rest = groups_from gs in
+    factors_append own rest old b
+    ∙ (λ j. group_unshared g (h 0 g (omega arith)) old old' b j ++ groups_unshared gs (each-rest Own g gs h) (drop (length own) old) (drop (length own) old') (drop (plan_bits own) b) j)
+    ∙ sym (factors_append own rest old' b)
 
 pub shape_unshared : (g : Setting) (r : SlotRecord) → may_share (shape_of r) ≡ false → Unshared (sources_of (plan_of g r))
 unfolding plan_of
-shape_unshared g r e = groups_unshared (plan_of g r) (shape_unshares g.mpeg1 g.intensity g.shares (shape_of r) r.scalefac_compress e) 0 4
-
-pub none-unshares : (mpeg1 intensity : Bool) (shares : List Bool) (k : Shape) (c : ℕ) → ((g : ℕ) → get_or shares g false ≡ false) → (g : ℕ)
-    → get_or (plan_by mpeg1 intensity shares k c).shares g false ≡ false
-unfolding plan_by
-none-unshares true intensity shares AllLong c h = h
-none-unshares true intensity shares AllShort c h = none-shared 4
-none-unshares true intensity shares LongThenShort c h = none-shared 4
-none-unshares false intensity shares k c h = none-shared 4
+shape_unshared g r e = groups_unshared (plan_of g r).groups (shape_unshares g.mpeg1 g.intensity g.shares (shape_of r) r.scalefac_compress e)
 
 pub unshared_plan : (g : Setting) (r : SlotRecord) → ((n : ℕ) → get_or g.shares n false ≡ false) → Unshared (sources_of (plan_of g r))
 unfolding plan_of
-unshared_plan g r h = groups_unshared (plan_of g r) (none-unshares g.mpeg1 g.intensity g.shares (shape_of r) r.scalefac_compress h) 0 4
+unshared_plan g r h = groups_unshared (plan_of g r).groups (none-unshares g.mpeg1 g.intensity g.shares (shape_of r) r.scalefac_compress h)
 
 -- ---- short factors are 39, in bands of three
 pub plan-factors_length : (g : Setting) (r : SlotRecord) (old : List ℕ) (b : List Bool)

@@ -1,6 +1,6 @@
 -- One flipped bit under a CRC is refused by 16: of the side information, of the CRC, or of the header's third and fourth byte, as far as the side
 -- information is as long under what these then read to. A bit of the first two bytes is not covered.
-use Rattle.std.specs.Prelude.{◌≡◌, Bool, true, false, ◌&&◌, length, replicate}
+use Rattle.std.specs.Prelude.{◌≡◌, Bool, true, false, ◌&&◌, length, replicate, Ok, Err}
 use Rattle.std.proofs.Math.Path.{refl, sym, ap}
 use Rattle.std.proofs.Common.{◌∙◌, eqb-true, le-ltb, ltb-false}
 use Rattle.std.proofs.Math.Bool.{not}
@@ -9,7 +9,6 @@ use Prim.Native.Nat.{ℕ, zero, suc, ◌+◌, ◌-◌, ◌*◌, ◌≤◌, ◌<�
 use Rattle.std.proofs.Math.Decide.{dec_le}
 use native.Mathlib.Omega.{arith}
 use Rattle.std.proofs.Math.ListN.{get_or}
-use Rattle.standard.specs.Told.{refused, told}
 use Rattle.standard.specs.ToldLaws.{picked, passed, never, no_refusal}
 use Rattle.standard.specs.Bits.{one, bit_at, bits, between, value, field_at}
 use Rattle.standard.specs.BitsLaws.{length-bits, bits-add, get_d_bits, byte-value}
@@ -117,7 +116,7 @@ module _ {s t : List ℕ} {i : ℕ} (f : Flipped s t i) where
 
 -- ---- side information, and a frame
 -- where side information was read under a header with a CRC, this fitted and all bytes were there
-pub read_fits : (h : FrameHeader) (s : List ℕ) (x : SideInfo) → is_header h ≡ true → h.crc ≡ true → side_of h s ≡ told x
+pub read_fits : (h : FrameHeader) (s : List ℕ) (x : SideInfo) → is_header h ≡ true → h.crc ≡ true → side_of h s ≡ Ok x
     → (crc_fits s (header_size h + side_size h) ≡ true) × (header_size h + side_size h ≤ length s)
 unfolding side_of side_from side_size
 read_fits h s x known has e =
@@ -140,10 +139,10 @@ crc_as h g has e = go g.crc (e ∙ ap (λ (c : Bool). 4 + 2 * one c) has)
     go false p = absurd (omega arith)
 
 -- the bytes s read to a header with a CRC and to side information, and t are these but for one bit
-module _ {s t : List ℕ} {i : ℕ} (h : FrameHeader) {x : SideInfo} (known : is_header h ≡ true) (has : h.crc ≡ true) (info : side_of h s ≡ told x)
+module _ {s t : List ℕ} {i : ℕ} (h : FrameHeader) {x : SideInfo} (known : is_header h ≡ true) (has : h.crc ≡ true) (info : side_of h s ≡ Ok x)
     (f : Flipped s t i) (within : i < 8 * (header_size h + side_size h)) where
   -- THE STATEMENT: under the header g that t reads to, where the sizes are as they were
-  pub flip_refused : 16 ≤ i → (g : FrameHeader) → is_header g ≡ true → header_size g ≡ header_size h → side_size g ≡ side_size h → side_of g t ≡ refused WrongCrc
+  pub flip_refused : 16 ≤ i → (g : FrameHeader) → is_header g ≡ true → header_size g ≡ header_size h → side_size g ≡ side_size h → side_of g t ≡ Err WrongCrc
   unfolding side_of side_from side_size
   flip_refused covers g fine front side =
       let r = read_fits h s x known has info in
@@ -155,7 +154,7 @@ module _ {s t : List ℕ} {i : ℕ} (h : FrameHeader) {x : SideInfo} (known : is
       ∙ ap not (ap (crc_fits t) end ∙ no_fit f (header_size h + side_size h) r.0 covers within))
 
   -- and of the frame: nothing is told of it, and the reservoir stays
-  pub flip_step : 16 ≤ i → {g : FrameHeader} → header_of t ≡ told g → is_header g ≡ true → header_size g ≡ header_size h → side_size g ≡ side_size h → (old : List ℕ)
+  pub flip_step : 16 ≤ i → {g : FrameHeader} → header_of t ≡ Ok g → is_header g ≡ true → header_size g ≡ header_size h → side_size g ≡ side_size h → (old : List ℕ)
       → frame_of t old ≡ no_step WrongCrc
   flip_step covers {g} e fine front side old = frame-no_side t old e (flip_refused covers g fine front side)
 

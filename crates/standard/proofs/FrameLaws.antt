@@ -1,24 +1,25 @@
 -- A frame's step by its stages, and what is answered at each.
-use Rattle.std.specs.Prelude.{◌≡◌, ℕ, ◌+◌, ◌≤◌, ◌<◌, ltb, ℤ, drop}
+use Rattle.std.specs.Prelude.{◌≡◌, ℕ, ◌+◌, ◌≤◌, ◌<◌, ltb, ℤ, drop, Result, Ok, Err}
 use Rattle.std.proofs.Math.Path.{refl, sym, ap}
 use Rattle.std.proofs.Common.{◌∙◌, arith, lt-ltb, le-ltb}
 use mathlib.Core.List.{List, []}
 use Rattle.std.proofs.Math.ListN.{length, take, length-append}
 use Rattle.std.proofs.Math.Seq.{take_at}
-use Rattle.standard.specs.Told.{refused, told}
 use Rattle.standard.specs.ToldLaws.{picked, passed, either_left, either_right, neither}
 use Rattle.standard.proofs.RefusalsLaws.{unlike}
 use Rattle.standard.specs.Header.{header_of, header_size, side_size, main_size, frame_length, no_header}
 use Rattle.standard.specs.SideInfo.{side_of, no_side}
 use Rattle.standard.specs.Slots.{Outcome, slots_of, slots_told, numbers_from}
+use Rattle.standard.specs.Told.{Verdict}
 use Rattle.standard.specs.Reservoir.{Turn, short, reached, turn_of, unfit, reservoir_after, bytes_after, turn_verdict, turn_kept, Turned}
-use Rattle.standard.specs.Frame.{Step, no_step, short_step, full_step, with_turn, with_side, with_header, frame_of, frame_call, FrameRead}
+use Rattle.standard.specs.Frame.{Step, no_step, short_step, full_step, step_slots, step_kept, head_of, frame_answer, with_turn, with_side, with_header, frame_of, frame_call, FrameRead}
 use Rattle.standard.specs.declared.FrameHeader.{FrameHeader}
 use Rattle.standard.specs.declared.SideInfo.{SideInfo}
 use Rattle.standard.specs.declared.Reservoir.{Reservoir}
-use Rattle.standard.specs.declared.ReservoirAnswer.{ReservoirAnswer}
-use Rattle.standard.specs.declared.FrameAnswer.{FrameAnswer}
-use Rattle.standard.specs.declared.Verdict.TheVariants.{Accepted, Refused}
+use Rattle.standard.specs.declared.SlotAnswer.{SlotAnswer}
+use Rattle.standard.specs.declared.Frame.{Frame}
+use Rattle.standard.specs.declared.FrameRefusal.{FrameRefusal}
+use Rattle.standard.specs.declared.FrameRefusal.TheVariants.{Unread, OutOfReach}
 use Rattle.standard.specs.declared.Refusal.{Refusal}
 use Rattle.standard.specs.declared.Refusal.TheVariants.{UnfitMemory, AbsentBytes}
 
@@ -41,33 +42,28 @@ module _ (s lent : List ℕ) (stated d : ℕ) where
   call_fits a b c = passed _ (neither (neither (le-ltb (length lent) 4096 a) (le-ltb 4096 stated b)) (le-ltb d 2304 c))
 
 -- ---- a refused frame tells nothing and changes nothing
-pub step-refused : {lent left : List ℕ} {old : Reservoir} {d nums : List ℤ} {p : Step} {r : FrameAnswer} {why : Refusal} → p ≡ no_step why
-    → (r.verdict ≡ Refused why) × (r.header ≡ no_header) × (r.info ≡ no_side) × (r.length ≡ 0) × (r.slots ≡ slots_told []) × (r.reservoir ≡ old)
-    → left ≡ lent → nums ≡ d → FrameRead lent old d p r left nums
-unfolding no_step reservoir_after bytes_after numbers_from
-step-refused {lent} {left} {old} {d} e a l n = record {
-  verdict = a.0 ∙ sym (ap (λ (x : Step). x.verdict) e);
-  header = a.1 ∙ sym (ap (λ (x : Step). x.header) e);
-  info = a.2 ∙ sym (ap (λ (x : Step). x.info) e);
-  length-is = a.3 ∙ sym (ap (λ (x : Step). x.length) e);
-  slots = a.4 ∙ sym (ap (λ (x : Step). slots_told x.slots) e);
-  reservoir = a.5 ∙ sym (ap (λ (x : Step). reservoir_after old x.kept) e);
-  bytes = l ∙ sym (ap (λ (x : Step). bytes_after lent x.kept) e);
-  numbers-are = n ∙ sym (ap (λ (x : Step). numbers_from 0 x.slots d) e);
+pub step-refused : {lent left : List ℕ} {old new : Reservoir} {d nums : List ℤ} {p : Step} {r : Result Frame FrameRefusal} {why : Refusal} → p ≡ no_step why
+    → r ≡ Err (Unread why) → new ≡ old → left ≡ lent → nums ≡ d → FrameRead lent old d p r new left nums
+unfolding frame_answer reservoir_after bytes_after numbers_from
+step-refused {lent} {left} {old} {new} {d} e a k l n = record {
+  answer = a ∙ sym (ap frame_answer e);
+  reservoir = k ∙ sym (ap (λ (x : Step). reservoir_after old (step_kept x)) e);
+  bytes = l ∙ sym (ap (λ (x : Step). bytes_after lent (step_kept x)) e);
+  numbers-are = n ∙ sym (ap (λ (x : Step). numbers_from 0 (step_slots x) d) e);
 }
 
 -- ---- the stages
 module _ (s old : List ℕ) where
-  pub frame-no_header : {r : Refusal} → header_of s ≡ refused r → frame_of s old ≡ no_step r
+  pub frame-no_header : {r : Refusal} → header_of s ≡ Err r → frame_of s old ≡ no_step r
   unfolding frame_of with_header
   frame-no_header e = ap (with_header s old) e
 
-  module _ {h : FrameHeader} (e : header_of s ≡ told h) where
-    pub frame-no_side : {r : Refusal} → side_of h s ≡ refused r → frame_of s old ≡ no_step r
+  module _ {h : FrameHeader} (e : header_of s ≡ Ok h) where
+    pub frame-no_side : {r : Refusal} → side_of h s ≡ Err r → frame_of s old ≡ no_step r
     unfolding frame_of with_header with_side
     frame-no_side f = ap (with_header s old) e ∙ ap (with_side h s old) f
 
-    module _ {i : SideInfo} (f : side_of h s ≡ told i) where
+    module _ {i : SideInfo} (f : side_of h s ≡ Ok i) where
       pub frame-absent : length s < frame_length h → frame_of s old ≡ no_step (AbsentBytes (length s))
       unfolding frame_of with_header with_side
       frame-absent l = ap (with_header s old) e ∙ ap (with_side h s old) f ∙ picked _ (lt-ltb (length s) (frame_length h) l)
@@ -78,9 +74,9 @@ module _ (s old : List ℕ) where
       frame-turn l = ap (with_header s old) e ∙ ap (with_side h s old) f ∙ passed _ (le-ltb (length s) (frame_length h) l)
 
 -- ---- after the frame's turn with the reservoir
-module _ {lent left : List ℕ} {old : Reservoir} {a : ReservoirAnswer} where
+module _ {lent left : List ℕ} {old new : Reservoir} {v : Verdict} where
   -- what is kept stands in the lent bytes
-  pub kept_within : (t : Turn) → Turned lent old (told t) a left → a.reservoir.length ≤ length left
+  pub kept_within : (t : Turn) → Turned lent old (Ok t) v new left → new.length ≤ length left
   unfolding turn_kept reservoir_after bytes_after
   kept_within (short bs) u =
       let e = ap (λ (x : Reservoir). x.length) u.reservoir in
@@ -91,58 +87,38 @@ module _ {lent left : List ℕ} {old : Reservoir} {a : ReservoirAnswer} where
       let f = ap length u.bytes ∙ length-append bs (drop (length bs) lent) in
       omega (arith, e, f)
 
-  module _ {h : FrameHeader} {i : SideInfo} {p : Step} {r : FrameAnswer} {d nums : List ℤ} where
+  module _ (h : FrameHeader) (i : SideInfo) {p : Step} {r : Result Frame FrameRefusal} {d nums : List ℤ} where
     -- too short a reservoir: all but the slots is told, and no number changes
-    pub step-short : (t : Turn) {why : Refusal} → p ≡ with_turn h i t → Turned lent old (told t) a left → a.verdict ≡ Refused why
-        → (r.verdict ≡ Refused why) × (r.header ≡ h) × (r.info ≡ i) × (r.length ≡ frame_length h) × (r.slots ≡ slots_told []) × (r.reservoir ≡ a.reservoir)
-        → nums ≡ d → FrameRead lent old d p r left nums
-    unfolding with_turn short_step turn_verdict turn_kept numbers_from
+    pub step-short : (t : Turn) {why : Refusal} → p ≡ with_turn h i t → Turned lent old (Ok t) v new left → v ≡ Err why
+        → r ≡ Err (OutOfReach (head_of h i)) → nums ≡ d → FrameRead lent old d p r new left nums
+    unfolding with_turn frame_answer turn_verdict turn_kept numbers_from
     step-short (reached bs) e u v w n = unlike (sym v ∙ u.verdict)
     step-short (short bs) e u v w n = record {
-      verdict = (w.0 ∙ sym v) ∙ u.verdict ∙ sym (ap (λ (x : Step). x.verdict) e);
-      header = w.1 ∙ sym (ap (λ (x : Step). x.header) e);
-      info = w.2 ∙ sym (ap (λ (x : Step). x.info) e);
-      length-is = w.3 ∙ sym (ap (λ (x : Step). x.length) e);
-      slots = w.4 ∙ sym (ap (λ (x : Step). slots_told x.slots) e);
-      reservoir = w.5 ∙ u.reservoir ∙ sym (ap (λ (x : Step). reservoir_after old x.kept) e);
-      bytes = u.bytes ∙ sym (ap (λ (x : Step). bytes_after lent x.kept) e);
-      numbers-are = n ∙ sym (ap (λ (x : Step). numbers_from 0 x.slots d) e);
+      answer = w ∙ sym (ap frame_answer e);
+      reservoir = u.reservoir ∙ sym (ap (λ (x : Step). reservoir_after old (step_kept x)) e);
+      bytes = u.bytes ∙ sym (ap (λ (x : Step). bytes_after lent (step_kept x)) e);
+      numbers-are = n ∙ sym (ap (λ (x : Step). numbers_from 0 (step_slots x) d) e);
     }
 
     -- the slots are read from the bytes kept
-    pub step-full : (t : Turn) → p ≡ with_turn h i t → Turned lent old (told t) a left → a.verdict ≡ Accepted
-        → (r.slots ≡ slots_told (slots_of h i (take a.reservoir.length left))) × (nums ≡ numbers_from 0 (slots_of h i (take a.reservoir.length left)) d)
-        → (r.verdict ≡ Accepted) × (r.header ≡ h) × (r.info ≡ i) × (r.length ≡ frame_length h) × (r.reservoir ≡ a.reservoir)
-        → FrameRead lent old d p r left nums
-    unfolding with_turn full_step turn_verdict turn_kept reservoir_after bytes_after
+    pub step-full : (t : Turn) {l : List SlotAnswer} → p ≡ with_turn h i t → Turned lent old (Ok t) v new left → v ≡ Ok tt
+        → (l ≡ slots_told (slots_of h i (take new.length left))) × (nums ≡ numbers_from 0 (slots_of h i (take new.length left)) d)
+        → r ≡ Ok (record { head = head_of h i; slots = l }) → FrameRead lent old d p r new left nums
+    unfolding with_turn frame_answer turn_verdict turn_kept reservoir_after bytes_after
     step-full (short bs) e u v z w = unlike (sym u.verdict ∙ v)
     step-full (reached bs) e u v z w =
-        let n : a.reservoir.length ≡ length bs = ap (λ (c : Reservoir). c.length) u.reservoir in
-        let kept : take a.reservoir.length left ≡ bs = (λ j. take (n j) (u.bytes j)) ∙ take_at bs (drop (length bs) lent) (length bs) refl in
-        let said : slots_of h i (take a.reservoir.length left) ≡ slots_of h i bs = ap (slots_of h i) kept in
+        let n : new.length ≡ length bs = ap (λ (c : Reservoir). c.length) u.reservoir in
+        let kept : take new.length left ≡ bs = (λ j. take (n j) (u.bytes j)) ∙ take_at bs (drop (length bs) lent) (length bs) refl in
+        let said : slots_of h i (take new.length left) ≡ slots_of h i bs = ap (slots_of h i) kept in
         record {
-          verdict = w.0 ∙ sym (ap (λ (x : Step). x.verdict) e);
-          header = w.1 ∙ sym (ap (λ (x : Step). x.header) e);
-          info = w.2 ∙ sym (ap (λ (x : Step). x.info) e);
-          length-is = w.3 ∙ sym (ap (λ (x : Step). x.length) e);
-          slots = z.0 ∙ ap slots_told said ∙ sym (ap (λ (x : Step). slots_told x.slots) e);
-          reservoir = w.4 ∙ u.reservoir ∙ sym (ap (λ (x : Step). reservoir_after old x.kept) e);
-          bytes = u.bytes ∙ sym (ap (λ (x : Step). bytes_after lent x.kept) e);
+          answer = w ∙ ap (λ (l : List SlotAnswer). Ok (record { head = head_of h i; slots = l })) (z.0 ∙ ap slots_told said) ∙ sym (ap frame_answer e);
+          reservoir = u.reservoir ∙ sym (ap (λ (x : Step). reservoir_after old (step_kept x)) e);
+          bytes = u.bytes ∙ sym (ap (λ (x : Step). bytes_after lent (step_kept x)) e);
           numbers-are =
-              z.1 ∙ ap (λ (os : List Outcome). numbers_from 0 os d) said ∙ sym (ap (λ (x : Step). numbers_from 0 x.slots d) e);
+              z.1 ∙ ap (λ (os : List Outcome). numbers_from 0 os d) said ∙ sym (ap (λ (x : Step). numbers_from 0 (step_slots x) d) e);
         }
 
 -- ---- one answer and one state
-pub one-frame : {lent left gone : List ℕ} {old : Reservoir} {d nums news : List ℤ} {p : Step} {r q : FrameAnswer}
-    → FrameRead lent old d p r left nums → FrameRead lent old d p q gone news → (r ≡ q) × (left ≡ gone) × (nums ≡ news)
-one-frame {r = r} {q = q} a b =
-    let v = a.verdict ∙ sym b.verdict in
-    let h = a.header ∙ sym b.header in
-    let i = a.info ∙ sym b.info in
-    let n = a.length-is ∙ sym b.length-is in
-    let s = a.slots ∙ sym b.slots in
-    let k = a.reservoir ∙ sym b.reservoir in (
-      λ j. record { verdict = v j; header = h j; info = i j; length = n j; slots = s j; reservoir = k j },
-      a.bytes ∙ sym b.bytes,
-      a.numbers-are ∙ sym b.numbers-are,
-    )
+pub one-frame : {lent left gone : List ℕ} {old new other : Reservoir} {d nums news : List ℤ} {p : Step} {r q : Result Frame FrameRefusal}
+    → FrameRead lent old d p r new left nums → FrameRead lent old d p q other gone news → (r ≡ q) × (new ≡ other) × (left ≡ gone) × (nums ≡ news)
+one-frame a b = (a.answer ∙ sym b.answer, a.reservoir ∙ sym b.reservoir, a.bytes ∙ sym b.bytes, a.numbers-are ∙ sym b.numbers-are)

@@ -1,17 +1,17 @@
 -- Why a slot's own bits can be refused: for its factors, for what it shares, for its regions, for a pair that does not end, and for bits that
 -- begin no codeword, which only a reader that meets such bits gives. Shown once, for any test of reasons that lets these through. So such a
 -- slot is never "missing" (20), and read by the published codes, which are complete, never without a codeword (25).
-use Rattle.std.specs.Prelude.{◌≡◌, Bool, true, not, ◌&&◌, ltb, eqb, ℤ, drop}
+use Rattle.std.specs.Prelude.{◌≡◌, Bool, true, not, ◌&&◌, ltb, eqb, ℤ, Some, None, Ok, Err, drop}
 use Rattle.std.proofs.Math.Path.{refl}
 use mathlib.Core.List.{List, [], ◌∷◌}
 use Prim.Native.Nat.{ℕ, zero, suc, ◌+◌, ◌*◌}
 use Rattle.standard.specs.ToldLaws.{either_way}
 use Rattle.standard.specs.Refusals.{number_of}
-use Rattle.standard.specs.Codes.{word_of}
+use Rattle.standard.specs.Codes.{Codeword, word_of}
 use Rattle.standard.proofs.CodesLaws.{complete}
 use Rattle.standard.specs.Record.{shape_of}
 use Rattle.standard.specs.Factors.{plan_of, sources_of, plan_bits}
-use Rattle.standard.specs.Numbers.{Reader, number_in, two_last, two_first, two_of, pair_after, pair_word, pair_of, quad_of, Numbers, halted, got, prepend, then_pairs, pairs, then_quads, quads, then_rest, numbers_by, regions_of, numbers_of, quad_word, quad_first, quad_last, quiet}
+use Rattle.standard.specs.Numbers.{Number, Pair, Quad, Reader, number_in, two_last, two_first, two_of, pair_after, pair_word, pair_of, quad_of, Numbers, halted, got, prepend, then_pairs, pairs, then_quads, quads, then_rest, numbers_by, regions_of, numbers_of, quad_word, quad_first, quad_last, quiet}
 use Rattle.standard.specs.Slots.{Outcome, stopped, holds, any_of, with_factors, slot_by, slot_of}
 use Rattle.standard.specs.declared.SampleRate.{SampleRate}
 use Rattle.standard.specs.declared.Setting.{Setting}
@@ -19,22 +19,15 @@ use Rattle.standard.specs.declared.Shape.{Shape}
 use Rattle.standard.specs.declared.SlotRecord.{SlotRecord}
 use Rattle.standard.specs.declared.Refusal.{Refusal}
 use Rattle.standard.specs.declared.Refusal.TheVariants.{FactorOverrun, LostShare, PairOverrun, NoCodeword}
-use Rattle.standard.specs.declared.Codeword.{Codeword}
-use Rattle.standard.specs.declared.Codeword.TheVariants.{Coded, Cut, Alien}
+use Rattle.standard.specs.declared.Unread.TheVariants.{Cut, Alien}
 use Rattle.standard.specs.declared.Regions.{Regions}
-use Rattle.standard.specs.declared.Number.{Number}
-use Rattle.standard.specs.declared.Number.TheVariants.{Whole, Broken}
-use Rattle.standard.specs.declared.Pair.{Pair}
-use Rattle.standard.specs.declared.Pair.TheVariants.{Two, NoPair}
-use Rattle.standard.specs.declared.Quad.{Quad}
-use Rattle.standard.specs.declared.Quad.TheVariants.{Four, Dropped, NoQuad}
 
 -- the reasons that a slot's own bits may be refused for
 pub record Allows (ok : Refusal → Bool) (word : Reader) : Type 0 where
   pub factors : ok FactorOverrun ≡ true
   pub share : ok LostShare ≡ true
   pub pair : ok PairOverrun ≡ true
-  pub alien : (t : ℕ) (b : List Bool) → word t b ≡ Alien → ok NoCodeword ≡ true
+  pub alien : (t : ℕ) (b : List Bool) → word t b ≡ Err Alien → ok NoCodeword ≡ true
 
 -- an outcome that, if it is refused, is so for a reason that is let through
 unfoldable pub allowed : (Refusal → Bool) → Outcome → Bool
@@ -43,8 +36,8 @@ allowed ok (holds long short vs) = true
 
 module _ (ok : Refusal → Bool) (word : Reader) (allows : Allows ok word) where
   ok_pair : Pair → Bool
-  ok_pair (Two x y u) = true
-  ok_pair (NoPair r) = ok r
+  ok_pair (Ok p) = true
+  ok_pair (Err r) = ok r
 
   ok_numbers : Numbers → Bool
   ok_numbers (halted r) = ok r
@@ -53,46 +46,46 @@ module _ (ok : Refusal → Bool) (word : Reader) (allows : Allows ok word) where
   -- ---- a pair
   last_ok : (x : ℤ) (n : ℕ) (y : Number) → ok_pair (two_last x n y) ≡ true
   unfolding two_last ok_pair
-  last_ok x n Broken = allows.pair
-  last_ok x n (Whole y k) = refl
+  last_ok x n None = allows.pair
+  last_ok x n (Some y) = refl
 
   first-ok : (w y : ℕ) (b : List Bool) (x : Number) → ok_pair (two_first w y b x) ≡ true
   unfolding two_first ok_pair
-  first-ok w y b Broken = allows.pair
-  first-ok w y b (Whole x k) = last_ok x k (number_in w y (drop k b))
+  first-ok w y b None = allows.pair
+  first-ok w y b (Some x) = last_ok x.value x.used (number_in w y (drop x.used b))
 
   after-ok : (n : ℕ) (p : Pair) → ok_pair p ≡ true → ok_pair (pair_after n p) ≡ true
   unfolding pair_after ok_pair
-  after-ok n (NoPair r) e = e
-  after-ok n (Two x y k) e = refl
+  after-ok n (Err r) e = e
+  after-ok n (Ok p) e = refl
 
-  word_ok : (w : ℕ) (b : List Bool) (c : Codeword) → (c ≡ Alien → ok NoCodeword ≡ true) → ok_pair (pair_word w b c) ≡ true
+  word_ok : (w : ℕ) (b : List Bool) (c : Codeword) → (c ≡ Err Alien → ok NoCodeword ≡ true) → ok_pair (pair_word w b c) ≡ true
   unfolding pair_word two_of ok_pair
-  word_ok w b Cut f = allows.pair
-  word_ok w b Alien f = f refl
-  word_ok w b (Coded v n) f = after-ok n _ (first-ok w _ (drop n b) _)
+  word_ok w b (Err Cut) f = allows.pair
+  word_ok w b (Err Alien) f = f refl
+  word_ok w b (Ok c) f = after-ok c.used _ (first-ok w _ (drop c.used b) _)
 
   -- ---- a quad
   ok_quad : Quad → Bool
-  ok_quad NoQuad = ok NoCodeword
-  ok_quad Dropped = true
-  ok_quad (Four v w x y u) = true
+  ok_quad (Err Alien) = ok NoCodeword
+  ok_quad (Err Cut) = true
+  ok_quad (Ok q) = true
 
   last_quad : (v w : ℤ) (n : ℕ) (p : Pair) → ok_quad (quad_last v w n p) ≡ true
   unfolding quad_last ok_quad
-  last_quad v w n (NoPair r) = refl
-  last_quad v w n (Two x y k) = refl
+  last_quad v w n (Err r) = refl
+  last_quad v w n (Ok p) = refl
 
   first-quad : (c n : ℕ) (b : List Bool) (p : Pair) → ok_quad (quad_first c n b p) ≡ true
   unfolding quad_first ok_quad
-  first-quad c n b (NoPair r) = refl
-  first-quad c n b (Two v w k) = last_quad v w (n + k) _
+  first-quad c n b (Err r) = refl
+  first-quad c n b (Ok p) = last_quad p.value.0 p.value.1 (n + p.used) _
 
-  word_quad : (b : List Bool) (c : Codeword) → (c ≡ Alien → ok NoCodeword ≡ true) → ok_quad (quad_word b c) ≡ true
+  word_quad : (b : List Bool) (c : Codeword) → (c ≡ Err Alien → ok NoCodeword ≡ true) → ok_quad (quad_word b c) ≡ true
   unfolding quad_word ok_quad
-  word_quad b Cut f = refl
-  word_quad b Alien f = f refl
-  word_quad b (Coded c n) f = first-quad c n (drop n b) _
+  word_quad b (Err Cut) f = refl
+  word_quad b (Err Alien) f = f refl
+  word_quad b (Ok c) f = first-quad c.value c.used (drop c.used b) _
 
   -- ---- many
   prepend-ok : (vs : List ℤ) (q : Numbers) → ok_numbers q ≡ true → ok_numbers (prepend vs q) ≡ true
@@ -102,8 +95,8 @@ module _ (ok : Refusal → Bool) (word : Reader) (allows : Allows ok word) where
 
   then_pairs_lem : (p : Pair) (rest : ℕ → Numbers) → ok_pair p ≡ true → ((u : ℕ) → ok_numbers (rest u) ≡ true) → ok_numbers (then_pairs p rest) ≡ true
   unfolding then_pairs ok_numbers ok_pair
-  then_pairs_lem (NoPair r) rest e f = e
-  then_pairs_lem (Two x y u) rest e f = prepend-ok (x ∷ y ∷ []) (rest u) (f u)
+  then_pairs_lem (Err r) rest e f = e
+  then_pairs_lem (Ok p) rest e f = prepend-ok (p.value.0 ∷ p.value.1 ∷ []) (rest p.used) (f p.used)
 
   pairs-ok : (table : ℕ → ℕ) (k n : ℕ) (b : List Bool) → ok_numbers (pairs word table k n b) ≡ true
   unfolding pairs pair_of ok_numbers
@@ -114,9 +107,9 @@ module _ (ok : Refusal → Bool) (word : Reader) (allows : Allows ok word) where
 
   then_quads_lem : (q : Quad) (rest : ℕ → Numbers) → ok_quad q ≡ true → ((u : ℕ) → ok_numbers (rest u) ≡ true) → ok_numbers (then_quads q rest) ≡ true
   unfolding then_quads ok_numbers ok_quad
-  then_quads_lem NoQuad rest e f = e
-  then_quads_lem Dropped rest e f = refl
-  then_quads_lem (Four v w x y u) rest e f = prepend-ok (v ∷ w ∷ x ∷ y ∷ []) (rest u) (f u)
+  then_quads_lem (Err Alien) rest e f = e
+  then_quads_lem (Err Cut) rest e f = refl
+  then_quads_lem (Ok q) rest e f = prepend-ok q.value (rest q.used) (f q.used)
 
   quads-ok : (t n : ℕ) (b : List Bool) → ok_numbers (quads word t n b) ≡ true
   unfolding quads quad_of ok_numbers

@@ -1,7 +1,7 @@
 -- Bytes read to a header exactly when its bitrate and its sample rate are its version's.
 -- One way, the header's own bytes are written down and read back field by field, whatever follows them; the other, each of the fourteen
 -- and three places that a field can name holds a member.
-use Rattle.std.specs.Prelude.{◌≡◌, Bool, ◌&&◌, ◌↔◌, length, replicate}
+use Rattle.std.specs.Prelude.{◌≡◌, Bool, ◌&&◌, ◌↔◌, length, replicate, Ok}
 use Rattle.std.proofs.Math.Path.{refl, sym, ap}
 use Rattle.std.proofs.Common.{subst, ◌∙◌}
 use Rattle.std.proofs.Math.Bool.{true, false, not}
@@ -11,7 +11,7 @@ use native.Mathlib.Omega.{arith}
 use borrow.Author.Tests.{eqb-false, ne_eqb, eq-eqb, le-ltb, lt-leb}
 use Rattle.std.proofs.Math.ListN.{get_or, length-append}
 use Rattle.std.proofs.Math.Dec.{leb, eqb}
-use Rattle.standard.specs.Told.{told, pick}
+use Rattle.standard.specs.Told.{pick}
 use Rattle.standard.specs.ToldLaws.{passed, no_refusal, told_is, both_of, both}
 use Rattle.standard.specs.Bits.{one, bit_at, bits, between, value, field_at}
 use Rattle.standard.specs.BitsLaws.{one-le, one-is, bits-after}
@@ -220,7 +220,7 @@ module _ (h : FrameHeader) (known : is_header h ≡ true) where
       one_less = omega arith
 
   -- whatever its CRC is, and whatever follows the header
-  pub header-back : (w : List Bool) (rest : List ℕ) → header_of (header_bytes h w ++ rest) ≡ told h
+  pub header-back : (w : List Bool) (rest : List ℕ) → header_of (header_bytes h w ++ rest) ≡ Ok h
   unfolding header_of second_byte last_bytes header_bytes
   header-back w rest =
       passed _ (header-there h w rest 0 (omega arith))
@@ -238,7 +238,7 @@ module _ (h : FrameHeader) (known : is_header h ≡ true) where
       ∙ (passed _
       (ap (λ (b : Bool). b && leb (length (header_bytes h w ++ rest)) 5) (ap (λ (n : ℕ). eqb n 0) second_is.2 ∙ one-not h.crc)
       ∙ crc_there h.crc (length (header_bytes h w ++ rest)) (simp length-append (omega (arith, crc_length h.crc w))))
-      ∙ ap told fields_back))))))))))))
+      ∙ ap Ok fields_back))))))))))))
 
   pub bytes-header : (w : List Bool) → Bytes (header_bytes h w)
   unfolding header_bytes
@@ -290,7 +290,7 @@ fields-known b1 b2 b3 l p q r =
     both (member-at same_bitrate bitrate_self Kbps8 (bitrates v) (b2 / 16 - 1) (rw (bitrate_count v) h))
     (member-at same_rate rate_self Hz8000 (rates v) (b2 / 4 % 4) (rw (rate_count v) k))
 
-last_known : (s : List ℕ) (h : FrameHeader) → Bytes s → last_bytes s ≡ told h → is_header h ≡ true
+last_known : (s : List ℕ) (h : FrameHeader) → Bytes s → last_bytes s ≡ Ok h → is_header h ≡ true
 unfolding last_bytes
 last_known s h b e =
     let p = no_refusal (eqb (get_or s 2 0 / 16) 0) _ _ h e in
@@ -300,7 +300,7 @@ last_known s h b e =
     subst (λ (x : FrameHeader). is_header x ≡ true) (told_is u)
     (fields-known (get_or s 1 0) (get_or s 2 0) (get_or s 3 0) (b 2) (eqb-false _ _ p.0) (eqb-false _ _ q.0) (eqb-false _ _ r.0))
 
-second_known : (s : List ℕ) (h : FrameHeader) → Bytes s → second_byte s ≡ told h → is_header h ≡ true
+second_known : (s : List ℕ) (h : FrameHeader) → Bytes s → second_byte s ≡ Ok h → is_header h ≡ true
 unfolding second_byte
 second_known s h b e =
     let e1 = (no_refusal _ _ _ h e).1 in
@@ -309,7 +309,7 @@ second_known s h b e =
     let e4 = (no_refusal _ _ _ h e3).1 in
     last_known s h b (no_refusal _ _ _ h e4).1
 
-pub header-known : (s : List ℕ) (h : FrameHeader) → Bytes s → header_of s ≡ told h → is_header h ≡ true
+pub header-known : (s : List ℕ) (h : FrameHeader) → Bytes s → header_of s ≡ Ok h → is_header h ≡ true
 unfolding header_of
 header-known s h b e =
     let e1 = (no_refusal _ _ _ h e).1 in
@@ -317,7 +317,7 @@ header-known s h b e =
     second_known s h b (no_refusal _ _ _ h e2).1
 
 -- THE STATEMENT: a header is accepted exactly when some bytes read to it
-pub header_read : (h : FrameHeader) → (is_header h ≡ true) ↔ ((s : List ℕ) × Bytes s × (header_of s ≡ told h))
+pub header_read : (h : FrameHeader) → (is_header h ≡ true) ↔ ((s : List ℕ) × Bytes s × (header_of s ≡ Ok h))
 header_read h = (
   λ e. (header_bytes h [] ++ [], bytes-append (header_bytes h []) [] (bytes-header h e []) (λ i. omega arith), header-back h e [] []),
   λ w. header-known w.0 h w.1 w.2,

@@ -1,6 +1,6 @@
 -- Refusal 2 is given exactly when a needed byte is absent before any other fault shows, and its offset is the first such place: of a header, of side
 -- information under a header, of a frame. Where there is a header the place is below the frame's length.
-use Rattle.std.specs.Prelude.{◌≡◌, Bool, ◌&&◌, ◌||◌, ◌↔◌, List, ℕ, ◌+◌, ◌*◌, ◌≤◌, ◌<◌, ltb, leb, eqb, get_or}
+use Rattle.std.specs.Prelude.{◌≡◌, Bool, ◌&&◌, ◌||◌, ◌↔◌, List, ℕ, ◌+◌, ◌*◌, ◌≤◌, ◌<◌, ltb, leb, eqb, get_or, Result, Ok, Err}
 use Rattle.std.proofs.Math.Path.{refl, sym, ap, subst}
 use Rattle.std.proofs.Common.{◌∙◌, lt-ltb, le-ltb, le-leb, leb-false, eqb-true}
 use Rattle.std.proofs.Math.Bool.{true, false, not}
@@ -8,7 +8,7 @@ use Rattle.std.proofs.Math.Decide.{dec_le}
 use native.Mathlib.Omega.{arith}
 use Rattle.std.proofs.lemmas.Bool.{lt-leb}
 use Rattle.std.proofs.Math.ListN.{length}
-use Rattle.standard.specs.Told.{Told, refused, told, pick, verdict_of}
+use Rattle.standard.specs.Told.{pick, verdict_of, Verdict}
 use Rattle.standard.specs.ToldLaws.{picked, passed, never, no_refusal, told_is, either_way}
 use Rattle.standard.specs.Refusals.{number_of, offset_of}
 use Rattle.standard.proofs.RefusalsLaws.{why_is, unlike}
@@ -20,7 +20,7 @@ use Rattle.standard.specs.Header.{sync_least, ID, layer, protection_bit}
 use Rattle.standard.proofs.HeaderLaws.{header-size, side_size_lem, main_and_side}
 use Rattle.standard.proofs.HeaderBytes.{header-known}
 use Rattle.standard.specs.SideInfo.{needed_from, absent_from, side_in, side_from, side_of}
-use Rattle.standard.specs.Frame.{Step, no_step, short_step, full_step, with_turn, frame_of}
+use Rattle.standard.specs.Frame.{Step, with_turn, frame_of, step_verdict}
 use Rattle.standard.proofs.FrameLaws.{frame-no_header, frame-no_side, frame-absent, frame-turn}
 use Rattle.standard.proofs.StepLaws.{only, but, side_in_but}
 use Rattle.standard.specs.Needs.{wrong_second, wrong_last, header_needs, side_needs, needs_by, frame_needs, FirstAbsent}
@@ -28,8 +28,6 @@ use Rattle.standard.specs.declared.FrameHeader.{FrameHeader}
 use Rattle.standard.specs.declared.SideInfo.{SideInfo}
 use Rattle.standard.specs.declared.Refusal.{Refusal}
 use Rattle.standard.specs.declared.Refusal.TheVariants.{AbsentBytes, MadeUpRecord, WrongCrc}
-use Rattle.standard.specs.declared.Verdict.{Verdict}
-use Rattle.standard.specs.declared.Verdict.TheVariants.{Accepted, Refused}
 use Rattle.standard.specs.Reservoir.{Turn, short, reached}
 
 -- ---- the first absent place is the one that the definition names
@@ -64,11 +62,11 @@ absent-zero n = passed _ (le-ltb n 0 (omega arith))
 
 -- ---- a reading that needs the bytes before `end`: refused by 2 with the offset m where they are not all there, and never otherwise
 record Fit (end m : ℕ) (s : List ℕ) (v : Verdict) : Type 0 where
-  short : length s < end → v ≡ Refused (AbsentBytes m)
-  long : end ≤ length s → (n : ℕ) → v ≡ Refused (AbsentBytes n) → ⊥
+  short : length s < end → v ≡ Err (AbsentBytes m)
+  long : end ≤ length s → (n : ℕ) → v ≡ Err (AbsentBytes n) → ⊥
 
 exactly : {from end n : ℕ} {s : List ℕ} {v : Verdict} → from < end → Fit end (absent_from from (length s)) s v
-    → (v ≡ Refused (AbsentBytes n)) ↔ FirstAbsent from end s n
+    → (v ≡ Err (AbsentBytes n)) ↔ FirstAbsent from end s n
 exactly {from} {end} {n} {s} {v} g f = (
   λ e. elim (dec_le end (length s)) [
     | yes l ↦ absurd (f.long l n e)
@@ -78,21 +76,21 @@ exactly {from} {end} {n} {s} {v} g f = (
         subst (FirstAbsent from end s) r (first-at from end s g w)
   ],
   λ a. let w : length s < end = omega (arith, a.absent, a.before) in
-      f.short w ∙ sym (ap (λ (k : ℕ). Refused (AbsentBytes k)) (first-is from end s a)),
+      f.short w ∙ sym (ap (λ (k : ℕ). Err (AbsentBytes k)) (first-is from end s a)),
 )
   where
     offset_in : Verdict → ℕ
-    offset_in Accepted = 0
-    offset_in (Refused r) = offset_of r
+    offset_in (Ok tt) = 0
+    offset_in (Err r) = offset_of r
 
 -- what tells another refusal than 2 is not one for absent bytes
 not_2 : {r : Refusal} {n : ℕ} → but 2 (number_of r) ≡ true → r ≡ AbsentBytes n → ⊥
 not_2 f g = never (sym (ap (λ (q : Refusal). but 2 (number_of q)) g) ∙ f)
 
-only-not : {A : Type 0} {n : ℕ} (t : Told A) → only (but 2) t ≡ true → verdict_of t ≡ Refused (AbsentBytes n) → ⊥
+only-not : {A : Type 0} {n : ℕ} (t : Result A Refusal) → only (but 2) t ≡ true → verdict_of t ≡ Err (AbsentBytes n) → ⊥
 unfolding only verdict_of
-only-not (refused r) f e = not_2 f (why_is e)
-only-not (told a) f e = unlike (sym e)
+only-not (Err r) f e = not_2 f (why_is e)
+only-not (Ok a) f e = unlike (sym e)
 
 -- ---- the header: a test for absent bytes, one for a fault, and the bytes of the CRC
 at_least : (m : ℕ) (b : Bool) (x y : ℕ) → m ≤ x → m ≤ y → m ≤ pick b x y
@@ -125,30 +123,30 @@ second_needs b1 x y =
     (sym (covered (eqb (layer b1) 0) (not (eqb (layer b1) 1)) x y (λ e. ap (λ (n : ℕ). not (eqb n 1)) (eqb-true (layer b1) 0 e))))
 
 module _ {A : Type 0} (s : List ℕ) where
-  abbrev Fits : ℕ → Told A → Type 0
+  abbrev Fits : ℕ → Result A Refusal → Type 0
   Fits end t = Fit end (length s) s (verdict_of t)
 
-  fit_absent : (k end : ℕ) (t : Told A) → k < end → (k < length s → Fits end t) → Fits end (pick (leb (length s) k) (refused (AbsentBytes (length s))) t)
+  fit_absent : (k end : ℕ) (t : Result A Refusal) → k < end → (k < length s → Fits end t) → Fits end (pick (leb (length s) k) (Err (AbsentBytes (length s))) t)
   unfolding verdict_of
   fit_absent k end t h f =
       elim (dec_le (length s) k) [
         | yes l ↦
-            let e = picked {x = refused (AbsentBytes (length s))} t (le-leb (length s) k l) in
+            let e = picked {x = Err (AbsentBytes (length s))} t (le-leb (length s) k l) in
             record { short = λ g. ap verdict_of e; long = λ g n. absurd (let w : ⊥ = omega arith in w) }
         | no l ↦
-            let e = passed (refused (AbsentBytes (length s))) {y = t} (lt-leb (length s) k (omega arith)) in
+            let e = passed (Err (AbsentBytes (length s))) {y = t} (lt-leb (length s) k (omega arith)) in
             subst (Fit end (length s) s) (sym (ap verdict_of e)) (f (omega arith))
       ]
 
-  fit_fault : (b : Bool) (r : Refusal) (k end : ℕ) (t : Told A) → k ≤ length s → but 2 (number_of r) ≡ true → Fits end t
-      → Fits (pick b k end) (pick b (refused r) t)
+  fit_fault : (b : Bool) (r : Refusal) (k end : ℕ) (t : Result A Refusal) → k ≤ length s → but 2 (number_of r) ≡ true → Fits end t
+      → Fits (pick b k end) (pick b (Err r) t)
   unfolding pick verdict_of
   fit_fault true r k end t h e f = record { short = λ g. absurd (let w : ⊥ = omega arith in w); long = λ g n q. not_2 e (why_is q) }
   fit_fault false r k end t h e f = f
 
-  fit_crc : (c : Bool) (a : A) → 4 ≤ length s → Fits (4 + 2 * one c) (pick (c && leb (length s) 5) (refused (AbsentBytes (length s))) (told a))
+  fit_crc : (c : Bool) (a : A) → 4 ≤ length s → Fits (4 + 2 * one c) (pick (c && leb (length s) 5) (Err (AbsentBytes (length s))) (Ok a))
   unfolding pick verdict_of
-  fit_crc true a h = fit_absent 5 6 (told a) (omega arith) (λ g. record { short = λ l. absurd (let w : ⊥ = omega arith in w); long = λ l n e. unlike (sym e) })
+  fit_crc true a h = fit_absent 5 6 (Ok a) (omega arith) (λ g. record { short = λ l. absurd (let w : ⊥ = omega arith in w); long = λ l n e. unlike (sym e) })
   fit_crc false a h = record { short = λ l. absurd (let w : ⊥ = omega arith in w); long = λ l n e. unlike (sym e) }
 
 last_fit : (s : List ℕ) → 3 < length s
@@ -177,7 +175,7 @@ unfolding header_needs
 some_needed s = at_least 1 _ _ _ (omega arith) (at_least 1 _ _ _ (omega arith) (at_least 1 _ _ _ (omega arith) (omega arith)))
 
 -- THE STATEMENT, of a header
-pub header-absent : (s : List ℕ) (n : ℕ) → (verdict_of (header_of s) ≡ Refused (AbsentBytes n)) ↔ FirstAbsent 0 (header_needs s) s n
+pub header-absent : (s : List ℕ) (n : ℕ) → (verdict_of (header_of s) ≡ Err (AbsentBytes n)) ↔ FirstAbsent 0 (header_needs s) s n
 header-absent s n = exactly (some_needed s) (rw (absent-zero (length s)) (header-fit s))
 
 -- ---- side information under a header that bytes read to
@@ -201,10 +199,10 @@ module _ (h : FrameHeader) (known : is_header h ≡ true) (s : List ℕ) where
       let slow = is_slow h.rate in
       let own = bits s (8 * header_size h) (8 * side_bytes mpeg1 two) in
       let to = header_size h + side_bytes mpeg1 two in
-      let none : Told SideInfo = refused (AbsentBytes (absent_from (needed_from h.crc (header_size h)) (length s))) in
+      let none : Result SideInfo Refusal = Err (AbsentBytes (absent_from (needed_from h.crc (header_size h)) (length s))) in
       let wrong = h.crc && not (crc_fits s to) in
-      let checked : Told SideInfo = pick wrong (refused WrongCrc) (side_in mpeg1 two slow own) in
-      let e = ap verdict_of (picked (refused MadeUpRecord) known) in
+      let checked : Result SideInfo Refusal = pick wrong (Err WrongCrc) (side_in mpeg1 two slow own) in
+      let e = ap verdict_of (picked (Err MadeUpRecord) known) in
       record {
         short = λ l. e ∙ ap verdict_of (picked checked (lt-ltb (length s) to l));
         long = λ l n q. only-not checked (side_in_but 2 refl refl wrong mpeg1 two slow own)
@@ -212,7 +210,7 @@ module _ (h : FrameHeader) (known : is_header h ≡ true) (s : List ℕ) where
       }
 
   -- THE STATEMENT, of side information: of the header's own bytes those are needed that a CRC covers, and this
-  pub side_absent : (n : ℕ) → (verdict_of (side_of h s) ≡ Refused (AbsentBytes n)) ↔ FirstAbsent (needed_from h.crc (header_size h)) (header_size h + side_size h) s n
+  pub side_absent : (n : ℕ) → (verdict_of (side_of h s) ≡ Err (AbsentBytes n)) ↔ FirstAbsent (needed_from h.crc (header_size h)) (header_size h + side_size h) s n
   side_absent n = exactly (omega (arith, needed_before h, side_size_lem h)) side_fit
 
 -- ---- a frame
@@ -221,7 +219,7 @@ crc_there : (c : Bool) (n : ℕ) → 4 ≤ n → c && leb n 5 ≡ false → 4 + 
 crc_there true n l e = omega (arith, leb-false n 5 e)
 crc_there false n l e = l
 
-last_there : (s : List ℕ) (h : FrameHeader) → 3 < length s → last_bytes s ≡ told h → header_size h ≤ length s
+last_there : (s : List ℕ) (h : FrameHeader) → 3 < length s → last_bytes s ≡ Ok h → header_size h ≤ length s
 unfolding last_bytes header_size fields
 last_there s h l e =
     let e1 = (no_refusal _ _ _ h e).1 in
@@ -231,7 +229,7 @@ last_there s h l e =
     let e5 = no_refusal (eqb (protection_bit (get_or s 1 0)) 0 && leb (length s) 5) _ _ h e4 in
     subst (λ (x : FrameHeader). header_size x ≤ length s) (told_is e5.1) (crc_there (eqb (protection_bit (get_or s 1 0)) 0) (length s) (omega arith) e5.0)
 
-header-there : (s : List ℕ) (h : FrameHeader) → header_of s ≡ told h → header_size h ≤ length s
+header-there : (s : List ℕ) (h : FrameHeader) → header_of s ≡ Ok h → header_size h ≤ length s
 unfolding header_of second_byte
 header-there s h e =
     let e1 = (no_refusal _ _ _ h e).1 in
@@ -245,64 +243,64 @@ header-there s h e =
     last_there s h (leb-false (length s) 3 e8.0) e8.1
 
 -- after its turn with the reservoir a frame is not refused by 2
-turn_not : (h : FrameHeader) (i : SideInfo) (t : Turn) (n : ℕ) → (with_turn h i t).verdict ≡ Refused (AbsentBytes n) → ⊥
-unfolding with_turn short_step full_step
+turn_not : (h : FrameHeader) (i : SideInfo) (t : Turn) (n : ℕ) → step_verdict (with_turn h i t) ≡ Err (AbsentBytes n) → ⊥
+unfolding with_turn
 turn_not h i (short bs) n e = not_2 refl (why_is e)
 turn_not h i (reached bs) n e = unlike (sym e)
 
 module _ (s old : List ℕ) (bytes : Bytes s) where
   abbrev FrameFits : ℕ → Type 0
-  FrameFits end = Fit end (length s) s (frame_of s old).verdict
+  FrameFits end = Fit end (length s) s (step_verdict (frame_of s old))
 
-  by_side : (h : FrameHeader) → header_of s ≡ told h → (t : Told SideInfo) → side_of h s ≡ t → FrameFits (side_needs h t)
-  unfolding side_needs no_step verdict_of absent_from
-  by_side h e (refused r) f =
-      let v = ap (λ (p : Step). p.verdict) (frame-no_side s old e f) ∙ sym (ap verdict_of f) in
+  by_side : (h : FrameHeader) → header_of s ≡ Ok h → (t : Result SideInfo Refusal) → side_of h s ≡ t → FrameFits (side_needs h t)
+  unfolding side_needs verdict_of absent_from
+  by_side h e (Err r) f =
+      let v = ap step_verdict (frame-no_side s old e f) ∙ sym (ap verdict_of f) in
       let from = needed_from h.crc (header_size h) in
       let here : absent_from from (length s) ≡ length s = passed _ (le-ltb (length s) from (omega (arith, needed_before h, header-there s h e))) in
       subst (Fit (header_size h + side_size h) (length s) s) (sym v)
       (subst (λ (m : ℕ). Fit (header_size h + side_size h) m s (verdict_of (side_of h s))) here (side_fit h (header-known s h bytes e) s))
-  by_side h e (told i) f = record {
-    short = λ l. ap (λ (p : Step). p.verdict) (frame-absent s old e f l);
-    long = λ l n q. turn_not h i _ n (sym (ap (λ (p : Step). p.verdict) (frame-turn s old e f l)) ∙ q);
+  by_side h e (Ok i) f = record {
+    short = λ l. ap step_verdict (frame-absent s old e f l);
+    long = λ l n q. turn_not h i _ n (sym (ap step_verdict (frame-turn s old e f l)) ∙ q);
   }
 
-  by_header : (t : Told FrameHeader) → header_of s ≡ t → FrameFits (needs_by s t)
-  unfolding needs_by no_step verdict_of
-  by_header (refused r) e =
-      let v = ap (λ (p : Step). p.verdict) (frame-no_header s old e) ∙ sym (ap verdict_of e) in
+  by_header : (t : Result FrameHeader Refusal) → header_of s ≡ t → FrameFits (needs_by s t)
+  unfolding needs_by verdict_of
+  by_header (Err r) e =
+      let v = ap step_verdict (frame-no_header s old e) ∙ sym (ap verdict_of e) in
       subst (Fit (header_needs s) (length s) s) (sym v) (header-fit s)
-  by_header (told h) e = by_side h e (side_of h s) refl
+  by_header (Ok h) e = by_side h e (side_of h s) refl
 
   frame-fit : FrameFits (frame_needs s)
   unfolding frame_needs
   frame-fit = by_header (header_of s) refl
 
   -- all that a frame needs is before its end
-  needs_by_lem : {h : FrameHeader} → header_of s ≡ told h → frame_needs s ≤ frame_length h
+  needs_by_lem : {h : FrameHeader} → header_of s ≡ Ok h → frame_needs s ≤ frame_length h
   unfolding frame_needs needs_by side_needs frame_length
   needs_by_lem {h} e =
       let known = header-known s h bytes e in
-      subst (λ (t : Told FrameHeader). needs_by s t ≤ frame_length h) (sym e) (go (side_of h s) (main_and_side h known))
+      subst (λ (t : Result FrameHeader Refusal). needs_by s t ≤ frame_length h) (sym e) (go (side_of h s) (main_and_side h known))
     where
-      go : (t : Told SideInfo) → main_size h + side_size h ≡ data_size h → side_needs h t ≤ frame_length h
-      go (refused r) m = omega arith
-      go (told i) m = omega arith
+      go : (t : Result SideInfo Refusal) → main_size h + side_size h ≡ data_size h → side_needs h t ≤ frame_length h
+      go (Err r) m = omega arith
+      go (Ok i) m = omega arith
 
-  needs_some : (t : Told FrameHeader) → header_of s ≡ t → 0 < needs_by s t
+  needs_some : (t : Result FrameHeader Refusal) → header_of s ≡ t → 0 < needs_by s t
   unfolding needs_by side_needs frame_length
-  needs_some (refused r) e = some_needed s
-  needs_some (told h) e = go (side_of h s)
+  needs_some (Err r) e = some_needed s
+  needs_some (Ok h) e = go (side_of h s)
     where
-      go : (t : Told SideInfo) → 0 < side_needs h t
-      go (refused r) = omega (arith, header-size h)
-      go (told i) = omega (arith, header-size h)
+      go : (t : Result SideInfo Refusal) → 0 < side_needs h t
+      go (Err r) = omega (arith, header-size h)
+      go (Ok i) = omega (arith, header-size h)
 
   -- THE STATEMENT, of a frame
-  pub absent-exactly : (n : ℕ) → ((frame_of s old).verdict ≡ Refused (AbsentBytes n)) ↔ FirstAbsent 0 (frame_needs s) s n
+  pub absent-exactly : (n : ℕ) → (step_verdict (frame_of s old) ≡ Err (AbsentBytes n)) ↔ FirstAbsent 0 (frame_needs s) s n
   unfolding frame_needs
   absent-exactly n = exactly (needs_some (header_of s) refl) (rw (absent-zero (length s)) frame-fit)
 
   -- and where there is a header, the place is below the frame's length
-  pub absent-within : {h : FrameHeader} (n : ℕ) → header_of s ≡ told h → (frame_of s old).verdict ≡ Refused (AbsentBytes n) → n < frame_length h
+  pub absent-within : {h : FrameHeader} (n : ℕ) → header_of s ≡ Ok h → step_verdict (frame_of s old) ≡ Err (AbsentBytes n) → n < frame_length h
   absent-within n e q = omega (arith, ((absent-exactly n).0 q).before, needs_by_lem e)

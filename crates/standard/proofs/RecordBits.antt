@@ -1,13 +1,13 @@
 -- Bits read to a slot's record exactly when `is_record` says so.
 -- One way, the record's fields are written one after the other and read back; the other, a field of n bits is below 2 ^ n.
-use Rattle.std.specs.Prelude.{◌≡◌, Bool, ◌&&◌, ◌↔◌, List, [], ◌∷◌, ◌++◌, ℕ, zero, suc, ◌+◌, ◌^◌, ◌<◌, ◌≤◌, length, get_or, ltb, leb, Float}
+use Rattle.std.specs.Prelude.{◌≡◌, Bool, ◌&&◌, ◌↔◌, List, [], ◌∷◌, ◌++◌, ℕ, zero, suc, ◌+◌, ◌^◌, ◌<◌, ◌≤◌, length, get_or, ltb, leb, Float, Ok, Err}
 use Rattle.std.proofs.Math.Path.{refl, sym, ap}
 use Rattle.std.proofs.Common.{subst, ◌∙◌, arith}
 use Rattle.std.proofs.Math.Bool.{true, false, not, beq}
 use borrow.Author.Tests.{eqb-true, eqb-false, ltb-true, leb-true, ltb-false, not-true, lt-ltb, le-leb, eq-eqb, le-ltb}
 use Rattle.std.proofs.Math.Dec.{eqb}
 use Rattle.std.specs.Float.Ieee.{nan}
-use Rattle.standard.specs.Told.{refused, told, pick}
+use Rattle.standard.specs.Told.{pick}
 use Rattle.standard.specs.ToldLaws.{picked, passed, never, no_refusal, told_is, both_of, both}
 use Rattle.standard.specs.Rows.{member, place, later}
 use Rattle.standard.specs.RowsLaws.{member-at, place_at, place-member}
@@ -247,7 +247,7 @@ module _ (r : SlotRecord) (t : is_long r.block_type ≡ true) (body : is_long_bo
       let ts = trio-is (below 32) (below 32) (below 32) 0 r.table_select long-body.0 in
       (omega arith, (ltb-true _ _ ts.1, (ltb-true _ _ ts.2, (ltb-true _ _ ts.3, (long-body.2, (long-body.3, tt))))))
 
-  long-from : (mpeg1 slow : Bool) (b : List Bool) → is_head mpeg1 r ≡ true → RecordAt true mpeg1 r b → record_of mpeg1 slow b ≡ told r
+  long-from : (mpeg1 slow : Bool) (b : List Bool) → is_head mpeg1 r ≡ true → RecordAt true mpeg1 r b → record_of mpeg1 slow b ≡ Ok r
   unfolding record_of record_in long_of
   long-from mpeg1 slow b h (length_at, (pairs-at, (gain_at, (compress-at, (window-at, (t0, (t1, (t2, (region0-at, (region1-at, last-at)))))))))) =
       let k = head_is mpeg1 r h in
@@ -257,7 +257,7 @@ module _ (r : SlotRecord) (t : is_long r.block_type ≡ true) (body : is_long_bo
       passed _ (le-ltb 288 (field b 12 9) (rw pairs-at k.1))
       ∙ (picked _ (ap not (flag_is b (29 + compress_width mpeg1) false window-at))
       ∙ (λ j.
-      told
+      Ok
       (record {
         part2_3_length = length_at j;
         big_values = pairs-at j;
@@ -302,7 +302,7 @@ module _ (r : SlotRecord) (t : is_long r.block_type ≡ false) (body : is_switch
       )
 
   switched-from : (mpeg1 slow : Bool) (b : List Bool) → is_head mpeg1 r ≡ true → is_unmixed slow r ≡ true → RecordAt false mpeg1 r b
-      → record_of mpeg1 slow b ≡ told r
+      → record_of mpeg1 slow b ≡ Ok r
   unfolding record_of record_in switched_of
   switched-from mpeg1 slow b h unmixed (length_at, (pairs-at, (gain_at, (compress-at, (window-at, (type_at, (mixed-at, (t0, (t1, (g0, (g1, (g2, l)))))))))))) =
       let c = compress_width mpeg1 in
@@ -317,7 +317,7 @@ module _ (r : SlotRecord) (t : is_long r.block_type ≡ false) (body : is_switch
       ∙ (passed _ (ap (λ (n : ℕ). eqb n 0) type_at ∙ type_switched r.block_type t)
       ∙ (passed _ ((λ j. slow && is_mixed (shape_by (block_at j) (flag_at j))) ∙ not-true _ unmixed)
       ∙ (λ j.
-      told
+      Ok
       (record {
         part2_3_length = length_at j;
         big_values = pairs-at j;
@@ -335,7 +335,7 @@ module _ (r : SlotRecord) (t : is_long r.block_type ≡ false) (body : is_switch
         count1table_select = last.2 j;
       })))))
 
-pub record_back : (mpeg1 slow : Bool) (r : SlotRecord) → is_record mpeg1 slow r ≡ true → record_of mpeg1 slow (bits_of_record mpeg1 r) ≡ told r
+pub record_back : (mpeg1 slow : Bool) (r : SlotRecord) → is_record mpeg1 slow r ≡ true → record_of mpeg1 slow (bits_of_record mpeg1 r) ≡ Ok r
 unfolding is_record bits_of_record pick
 record_back mpeg1 slow r e =
     let p = both_of (is_head mpeg1 r && is_unmixed slow r) _ e in
@@ -343,7 +343,7 @@ record_back mpeg1 slow r e =
     go (is_long r.block_type) refl q.0 q.1 p.1
   where
     go : (l : Bool) → is_long r.block_type ≡ l → is_head mpeg1 r ≡ true → is_unmixed slow r ≡ true → pick l (is_long_body r) (is_switched_body r) ≡ true
-        → record_of mpeg1 slow (write (parts_by l mpeg1 r)) ≡ told r
+        → record_of mpeg1 slow (write (parts_by l mpeg1 r)) ≡ Ok r
     go true t h u b =
         long-from r t b mpeg1 slow _ h (record_at_lem true mpeg1 r _ (stands_alone (parts_by true mpeg1 r) (parts_fit true mpeg1 r h (long-fit r t b))))
     go false t h u b =
@@ -401,17 +401,17 @@ block_switched (suc (suc zero)) h k = refl
 block_switched (suc (suc (suc zero))) h k = refl
 block_switched (suc (suc (suc (suc n)))) h k = absurd (omega arith)
 
-pub record_known : (mpeg1 slow : Bool) (b : List Bool) (r : SlotRecord) → record_of mpeg1 slow b ≡ told r → is_record mpeg1 slow r ≡ true
+pub record_known : (mpeg1 slow : Bool) (b : List Bool) (r : SlotRecord) → record_of mpeg1 slow b ≡ Ok r → is_record mpeg1 slow r ≡ true
 unfolding record_of record_in
 record_known mpeg1 slow b r e0 =
     let p = no_refusal (ltb 288 (field b 12 9)) _ _ r e0 in
     go (ltb-false _ _ p.0) (not (flag b (29 + compress_width mpeg1))) p.1
   where
     go : field b 12 9 ≤ 288 → (l : Bool)
-        → pick l (told (long_of mpeg1 (compress_width mpeg1) b))
-        (pick (eqb (field b (30 + compress_width mpeg1) 2) 0) (refused ForbiddenBlock)
-        (pick (slow && is_mixed (shape_by (block_of (field b (30 + compress_width mpeg1) 2)) (flag b (32 + compress_width mpeg1)))) (refused MixedBlock)
-        (told (switched_of mpeg1 (compress_width mpeg1) (block_of (field b (30 + compress_width mpeg1) 2)) (flag b (32 + compress_width mpeg1)) b)))) ≡ told r
+        → pick l (Ok (long_of mpeg1 (compress_width mpeg1) b))
+        (pick (eqb (field b (30 + compress_width mpeg1) 2) 0) (Err ForbiddenBlock)
+        (pick (slow && is_mixed (shape_by (block_of (field b (30 + compress_width mpeg1) 2)) (flag b (32 + compress_width mpeg1)))) (Err MixedBlock)
+        (Ok (switched_of mpeg1 (compress_width mpeg1) (block_of (field b (30 + compress_width mpeg1) 2)) (flag b (32 + compress_width mpeg1)) b)))) ≡ Ok r
         → is_record mpeg1 slow r ≡ true
     go l true e = subst (λ (x : SlotRecord). is_record mpeg1 slow x ≡ true) (told_is (sym (picked _ refl) ∙ e)) (long-known mpeg1 slow b l)
     go l false e =
@@ -424,7 +424,7 @@ record_known mpeg1 slow b r e0 =
 
 -- THE STATEMENT: a record is accepted exactly when some bits, as many as a record has, read to it
 pub record_read : (mpeg1 slow : Bool) (r : SlotRecord)
-    → (is_record mpeg1 slow r ≡ true) ↔ ((b : List Bool) × (length b ≡ record_width mpeg1) × (record_of mpeg1 slow b ≡ told r))
+    → (is_record mpeg1 slow r ≡ true) ↔ ((b : List Bool) × (length b ≡ record_width mpeg1) × (record_of mpeg1 slow b ≡ Ok r))
 record_read mpeg1 slow r = (
   λ e. (bits_of_record mpeg1 r, length-record mpeg1 r, record_back mpeg1 slow r e),
   λ w. record_known mpeg1 slow w.0 r w.2,

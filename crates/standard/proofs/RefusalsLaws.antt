@@ -1,62 +1,52 @@
 -- A refusal is no reading, what an answer says leaves one answer, and the ways to answer.
-use Rattle.std.specs.Prelude.{◌≡◌, refl, List, [], ◌∷◌, ℕ, get_or}
+use Rattle.std.specs.Prelude.{◌≡◌, refl, List, [], ◌∷◌, ℕ, get_or, Result, Ok, Err}
 use Rattle.std.proofs.Common.{sym, ap, ◌∙◌, arith}
-use Rattle.standard.specs.Told.{Told, refused, told, told_or, verdict_of}
+use Rattle.standard.specs.Told.{told_or, verdict_of, Verdict}
 use Rattle.standard.specs.ToldLaws.{clash}
-use Rattle.standard.specs.Refusals.{number_of, offset_of, told_header, Answers}
+use Rattle.standard.specs.Refusals.{number_of, offset_of, Answers}
 use Rattle.standard.specs.declared.Refusal.{Refusal}
 use Rattle.standard.specs.declared.Refusal.TheVariants.{UnfitMemory, MadeUpRecord, AbsentBytes, NoSync, ReservedVersion, ReservedLayer, OtherLayer, FreeBitrate, ForbiddenBitrate, ReservedRate, ReservedEmphasis, WrongCrc, TooManyPairs, ForbiddenBlock, MixedBlock, ShortReservoir, MissingBits, FactorOverrun, LostShare, PairOverrun, NoCodeword}
-use Rattle.standard.specs.declared.Verdict.{Verdict}
-use Rattle.standard.specs.declared.Verdict.TheVariants.{Accepted, Refused}
-use Rattle.standard.specs.declared.HeaderAnswer.{HeaderAnswer}
-use Rattle.standard.specs.declared.HeaderAnswer.TheVariants.{Header, NoHeader}
 
-pub apart : {A B : Type 0} {r : Refusal} {a : A} → refused r ≡ told a → B
+pub apart : {A B : Type 0} {r : Refusal} {a : A} → ◌≡◌ {A = Result A Refusal} (Err r) (Ok a) → B
 apart e = clash cc
 
-pub unlike : {B : Type 0} {r : Refusal} → Refused r ≡ Accepted → B
+pub unlike : {B : Type 0} {r : Refusal} → ◌≡◌ {A = Verdict} (Err r) (Ok tt) → B
 unlike e = clash cc
 
-pub one-reason : {A : Type 0} {r q : Refusal} → ◌≡◌ {A = Told A} (refused r) (refused q) → r ≡ q
+pub one-reason : {A : Type 0} {r q : Refusal} → ◌≡◌ {A = Result A Refusal} (Err r) (Err q) → r ≡ q
 one-reason e = cc
 
-pub why_is : {r q : Refusal} → Refused r ≡ Refused q → r ≡ q
+pub why_is : {r q : Refusal} → ◌≡◌ {A = Verdict} (Err r) (Err q) → r ≡ q
 why_is e = cc
 
-pub one-header : (a b : HeaderAnswer) → told_header a ≡ told_header b → a ≡ b
-one-header (Header h) (Header g) e = let p : h ≡ g = cc in ap Header p
-one-header (Header h) (NoHeader q) e = apart (sym e)
-one-header (NoHeader r) (Header g) e = apart e
-one-header (NoHeader r) (NoHeader q) e = ap NoHeader (one-reason e)
-
 -- a verdict with its value
-pub one_answer : {A : Type 0} {blank : A} {v w : Verdict} {a b : A} {t : Told A} → Answers blank v a t → Answers blank w b t → (v ≡ w) × (a ≡ b)
+pub one_answer : {A : Type 0} {blank : A} {v w : Verdict} {a b : A} {t : Result A Refusal} → Answers blank v a t → Answers blank w b t → (v ≡ w) × (a ≡ b)
 one_answer p q = (p.verdict ∙ sym q.verdict, p.value ∙ sym q.value)
 
 -- the two ways to answer
-pub answers_refused : {A : Type 0} {blank : A} {r : Refusal} {t : Told A} → t ≡ refused r → Answers blank (Refused r) blank t
+pub answers_refused : {A : Type 0} {blank : A} {r : Refusal} {t : Result A Refusal} → t ≡ Err r → Answers blank (Err r) blank t
 unfolding verdict_of told_or
 answers_refused {A} {blank} e = record { verdict = sym (ap verdict_of e); value = sym (ap (told_or blank) e) }
 
-pub answers_told : {A : Type 0} {blank a : A} {t : Told A} → t ≡ told a → Answers blank Accepted a t
+pub answers_told : {A : Type 0} {blank a : A} {t : Result A Refusal} → t ≡ Ok a → Answers blank (Ok tt) a t
 unfolding verdict_of told_or
 answers_told {A} {blank} e = record { verdict = sym (ap verdict_of e); value = sym (ap (told_or blank) e) }
 
 -- and what was read, by the verdict
-pub answered_told : {A : Type 0} {blank a : A} {v : Verdict} {t : Told A} → Answers blank v a t → v ≡ Accepted → t ≡ told a
+pub answered_told : {A : Type 0} {blank a : A} {v : Verdict} {t : Result A Refusal} → Answers blank v a t → v ≡ Ok tt → t ≡ Ok a
 unfolding verdict_of told_or
 answered_told {A} {blank} {a} {v} {t} r e = go t (sym r.verdict ∙ e) r.value
   where
-    go : (t : Told A) → verdict_of t ≡ Accepted → a ≡ told_or blank t → t ≡ told a
-    go (refused k) p q = unlike p
-    go (told x) p q = ap told (sym q)
+    go : (t : Result A Refusal) → verdict_of t ≡ Ok tt → a ≡ told_or blank t → t ≡ Ok a
+    go (Err k) p q = unlike p
+    go (Ok x) p q = ap Ok (sym q)
 
-pub refused_for_lem : {A : Type 0} {r : Refusal} (t : Told A) → verdict_of t ≡ Refused r → t ≡ refused r
+pub refused_for_lem : {A : Type 0} {r : Refusal} (t : Result A Refusal) → verdict_of t ≡ Err r → t ≡ Err r
 unfolding verdict_of
-refused_for_lem (refused k) e = ap refused (why_is e)
-refused_for_lem (told a) e = unlike (sym e)
+refused_for_lem (Err k) e = ap Err (why_is e)
+refused_for_lem (Ok a) e = unlike (sym e)
 
-pub answered_refused : {A : Type 0} {blank a : A} {v : Verdict} {r : Refusal} {t : Told A} → Answers blank v a t → v ≡ Refused r → t ≡ refused r
+pub answered_refused : {A : Type 0} {blank a : A} {v : Verdict} {r : Refusal} {t : Result A Refusal} → Answers blank v a t → v ≡ Err r → t ≡ Err r
 answered_refused {A} {t = t} q e = refused_for_lem t (sym q.verdict ∙ e)
 
 -- ---- number and offset together tell the reason

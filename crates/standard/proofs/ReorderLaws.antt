@@ -1,5 +1,5 @@
 -- The new order, band by band: which number comes to each place of a band, and what is left of the order after one.
-use Rattle.std.specs.Prelude.{◌≡◌, true, false, ◌&&◌, ℕ, zero, suc, ◌+◌, ◌-◌, ◌*◌, ◌≤◌, ◌<◌, ℤ, pos, take}
+use Rattle.std.specs.Prelude.{◌≡◌, true, false, ◌&&◌, ℕ, zero, suc, ◌+◌, ◌-◌, ◌*◌, ◌≤◌, ◌<◌, ℤ, pos, take, Ok, Err}
 use Rattle.std.proofs.Math.Path.{refl, ap}
 use Rattle.std.proofs.Common.{sym, ◌∙◌, lt-ltb, le-ltb, take-append-drop, drop_of_length-le, drop-cons}
 use mathlib.Core.List.{List, [], ◌∷◌, ◌++◌, append-nil}
@@ -9,7 +9,6 @@ use Rattle.std.proofs.Math.ListN.{length, get_or, drop}
 use Rattle.standard.specs.Bands.{row_of, short_rows, short_start}
 use Rattle.standard.specs.BandsLaws.{row_lt, short_rising, starts-at_0, rises, tops, lasts}
 use Rattle.standard.specs.RowsLaws.{every, rows_long}
-use Rattle.standard.specs.Told.{told, refused}
 use Rattle.standard.specs.ToldLaws.{never, both, picked, passed}
 use Rattle.standard.specs.Header.{is_slow, is_header}
 use Rattle.standard.specs.Record.{shape_of}
@@ -125,16 +124,16 @@ module _ (r : SampleRate) where
 
 -- ---- what the call comes to
 module _ (h : FrameHeader) (r : SlotRecord) (d : List ℤ) where
-  pub few_numbers : length d < 576 → reorder_of h r d ≡ refused UnfitMemory
+  pub few_numbers : length d < 576 → reorder_of h r d ≡ Err UnfitMemory
   unfolding reorder_of
   few_numbers k = picked _ (lt-ltb (length d) 576 k)
 
   module _ (k : 576 ≤ length d) where
-    pub made_up : is_header h && is_record_under h r ≡ false → reorder_of h r d ≡ refused MadeUpRecord
+    pub made_up : is_header h && is_record_under h r ≡ false → reorder_of h r d ≡ Err MadeUpRecord
     unfolding reorder_of
     made_up e = passed _ (le-ltb (length d) 576 k) ∙ passed _ e
 
-    pub in_order : is_header h ≡ true → is_record_under h r ≡ true → reorder_of h r d ≡ told (reordered_from h.rate (first_short (shape_of r)) d)
+    pub in_order : is_header h ≡ true → is_record_under h r ≡ true → reorder_of h r d ≡ Ok (reordered_from h.rate (first_short (shape_of r)) d)
     unfolding reorder_of
     in_order e f = passed _ (le-ltb (length d) 576 k) ∙ picked _ (both e f)
 

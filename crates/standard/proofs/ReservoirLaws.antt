@@ -1,31 +1,30 @@
 -- What a frame's turn comes to by its sizes, and what storing its bytes makes of the lent memory; the reservoir never outgrows 1,931 bytes.
-use Rattle.std.specs.Prelude.{◌≡◌, ℕ, ◌+◌, ◌-◌, ◌≤◌, ◌<◌, ltb, take}
+use Rattle.std.specs.Prelude.{◌≡◌, ℕ, ◌+◌, ◌-◌, ◌≤◌, ◌<◌, ltb, take, Result, Ok, Err}
 use Rattle.std.proofs.Math.Path.{sym, ap}
 use Rattle.std.proofs.Common.{◌∙◌, lt-ltb, le-ltb, length-append, take_at, length-take-le}
 use mathlib.Core.List.{List, ◌++◌}
 use native.Mathlib.Omega.{arith}
 use Rattle.std.proofs.Math.ListN.{length, drop, length-drop}
 use Rattle.std.proofs.Math.Seq.{paste, drop-paste, drop-drop, take-length}
-use Rattle.standard.specs.Told.{Told, told, refused}
 use Rattle.standard.specs.ToldLaws.{picked, passed, either_left, either_right, neither}
 use Rattle.standard.specs.CopyLaws.{take-drop}
 use Rattle.standard.specs.Reservoir.{reaching, adding, Turn, short, reached, turn_of, keeping, reservoir_after, bytes_after, unfit, turn_in, turn_verdict, turn_kept, Turned}
 use Rattle.standard.specs.declared.Reservoir.{Reservoir}
-use Rattle.standard.specs.declared.ReservoirAnswer.{ReservoirAnswer}
-use Rattle.standard.specs.declared.Verdict.TheVariants.{Refused}
+use Rattle.standard.specs.Told.{Verdict}
 use Rattle.standard.specs.declared.Refusal.TheVariants.{UnfitMemory}
+use Rattle.standard.specs.declared.Refusal.{Refusal}
 
 module _ (lent : List ℕ) (stated begin : ℕ) (main : List ℕ) where
   -- ---- refused for the memory
-  pub few_lent : length lent < 4096 → turn_in lent stated begin main ≡ refused UnfitMemory
+  pub few_lent : length lent < 4096 → turn_in lent stated begin main ≡ Err UnfitMemory
   unfolding turn_in unfit
   few_lent h = picked _ (either_left _ (either_left _ (lt-ltb _ _ h)))
 
-  pub much_stated : 4096 < stated → turn_in lent stated begin main ≡ refused UnfitMemory
+  pub much_stated : 4096 < stated → turn_in lent stated begin main ≡ Err UnfitMemory
   unfolding turn_in unfit
   much_stated h = picked _ (either_left (ltb 4096 (begin + length main)) (either_right (ltb (length lent) 4096) (lt-ltb 4096 stated h)))
 
-  pub too_long : 4096 < begin + length main → turn_in lent stated begin main ≡ refused UnfitMemory
+  pub too_long : 4096 < begin + length main → turn_in lent stated begin main ≡ Err UnfitMemory
   unfolding turn_in
   too_long h = picked _ (either_right (unfit lent stated) (lt-ltb 4096 (begin + length main) h))
 
@@ -34,22 +33,22 @@ module _ (lent : List ℕ) (stated begin : ℕ) (main : List ℕ) where
     old_long : length (take stated lent) ≡ stated
     old_long = length-take-le stated lent (omega arith)
 
-    pub fitting : turn_in lent stated begin main ≡ told (turn_of begin (take stated lent) main)
+    pub fitting : turn_in lent stated begin main ≡ Ok (turn_of begin (take stated lent) main)
     unfolding turn_in unfit
     fitting = passed _ (neither (neither (le-ltb _ _ lent_fits) (le-ltb _ _ stated-fits)) (le-ltb _ _ fits))
 
-    pub short_turn : stated < begin → turn_in lent stated begin main ≡ told (short (take stated lent ++ main))
+    pub short_turn : stated < begin → turn_in lent stated begin main ≡ Ok (short (take stated lent ++ main))
     unfolding turn_of adding
-    short_turn h = fitting ∙ ap told (picked _ (lt-ltb (length (take stated lent)) begin (omega (arith, old_long))))
+    short_turn h = fitting ∙ ap Ok (picked _ (lt-ltb (length (take stated lent)) begin (omega (arith, old_long))))
 
-    pub reached_turn : begin ≤ stated → turn_in lent stated begin main ≡ told (reached (take begin (drop (stated - begin) lent) ++ main))
+    pub reached_turn : begin ≤ stated → turn_in lent stated begin main ≡ Ok (reached (take begin (drop (stated - begin) lent) ++ main))
     unfolding turn_of reaching
     reached_turn h =
         let e : stated - begin + begin ≡ stated = omega arith in
         fitting
-        ∙ ap told (passed _ (le-ltb (length (take stated lent)) begin (omega (arith, old_long))))
-        ∙ ap (λ (n : ℕ). told (reached (drop (n - begin) (take stated lent) ++ main))) old_long
-        ∙ ap (λ (l : List ℕ). told (reached (l ++ main)))
+        ∙ ap Ok (passed _ (le-ltb (length (take stated lent)) begin (omega (arith, old_long))))
+        ∙ ap (λ (n : ℕ). Ok (reached (drop (n - begin) (take stated lent) ++ main))) old_long
+        ∙ ap (λ (l : List ℕ). Ok (reached (l ++ main)))
         (ap (λ (n : ℕ). drop (stated - begin) (take n lent)) (sym e) ∙ sym (take-drop (stated - begin) begin lent))
 
     -- ---- and what it stores
@@ -92,30 +91,27 @@ module _ (lent : List ℕ) (stated begin : ℕ) (main : List ℕ) where
               ∙ drop-drop (length main) begin lent
 
 -- ---- the answers
-pub unfit-turned : {lent : List ℕ} {old : Reservoir} {t : Told Turn} {r : ReservoirAnswer} {left : List ℕ} → t ≡ refused UnfitMemory
-    → (r.verdict ≡ Refused UnfitMemory) × (r.reservoir ≡ old) → left ≡ lent → Turned lent old t r left
+pub unfit-turned : {lent : List ℕ} {old : Reservoir} {t : Result Turn Refusal} {r : Verdict} {new : Reservoir} {left : List ℕ} → t ≡ Err UnfitMemory
+    → r ≡ Err UnfitMemory → new ≡ old → left ≡ lent → Turned lent old t r new left
 unfolding turn_verdict turn_kept reservoir_after bytes_after
-unfit-turned {lent} {old} e a l = record {
-  verdict = a.0 ∙ sym (ap turn_verdict e);
-  reservoir = a.1 ∙ sym (ap (λ (u : Told Turn). reservoir_after old (turn_kept u)) e);
-  bytes = l ∙ sym (ap (λ (u : Told Turn). bytes_after lent (turn_kept u)) e);
+unfit-turned {lent} {old} e a n l = record {
+  verdict = a ∙ sym (ap turn_verdict e);
+  reservoir = n ∙ sym (ap (λ (u : Result Turn Refusal). reservoir_after old (turn_kept u)) e);
+  bytes = l ∙ sym (ap (λ (u : Result Turn Refusal). bytes_after lent (turn_kept u)) e);
 }
 
 -- a turn that changed the reservoir: what is answered of it, and the new length and bytes
-pub changed_turned : {lent : List ℕ} {old : Reservoir} {t u : Told Turn} {bs : List ℕ} {r : ReservoirAnswer} {left : List ℕ} {n : ℕ} → t ≡ u
-    → turn_kept u ≡ keeping bs → r.verdict ≡ turn_verdict u → r.reservoir ≡ record { length = n } → length bs ≡ n
-    → left ≡ bytes_after lent (keeping bs) → Turned lent old t r left
+pub changed_turned : {lent : List ℕ} {old : Reservoir} {t u : Result Turn Refusal} {bs : List ℕ} {r : Verdict} {new : Reservoir} {left : List ℕ} {n : ℕ} → t ≡ u
+    → turn_kept u ≡ keeping bs → r ≡ turn_verdict u → new ≡ record { length = n } → length bs ≡ n
+    → left ≡ bytes_after lent (keeping bs) → Turned lent old t r new left
 unfolding reservoir_after
 changed_turned {lent} {old} {bs = bs} e k v a m l = record {
   verdict = v ∙ sym (ap turn_verdict e);
-  reservoir = a ∙ sym (ap (λ (w : Told Turn). reservoir_after old (turn_kept w)) e ∙ ap (reservoir_after old) k ∙ (λ j. record { length = m j }));
-  bytes = l ∙ sym (ap (λ (w : Told Turn). bytes_after lent (turn_kept w)) e ∙ ap (bytes_after lent) k);
+  reservoir = a ∙ sym (ap (λ (w : Result Turn Refusal). reservoir_after old (turn_kept w)) e ∙ ap (reservoir_after old) k ∙ (λ j. record { length = m j }));
+  bytes = l ∙ sym (ap (λ (w : Result Turn Refusal). bytes_after lent (turn_kept w)) e ∙ ap (bytes_after lent) k);
 }
 
 -- ---- one answer and one state
-pub one-turn : {lent left gone : List ℕ} {old : Reservoir} {t : Told Turn} {r q : ReservoirAnswer} → Turned lent old t r left → Turned lent old t q gone
-    → (r ≡ q) × (left ≡ gone)
-one-turn {r = r} {q = q} a b =
-    let v = a.verdict ∙ sym b.verdict in
-    let k = a.reservoir ∙ sym b.reservoir in
-    (λ j. record { verdict = v j; reservoir = k j }, a.bytes ∙ sym b.bytes)
+pub one-turn : {lent left gone : List ℕ} {old new other : Reservoir} {t : Result Turn Refusal} {r q : Verdict} → Turned lent old t r new left
+    → Turned lent old t q other gone → (r ≡ q) × (new ≡ other) × (left ≡ gone)
+one-turn a b = (a.verdict ∙ sym b.verdict, a.reservoir ∙ sym b.reservoir, a.bytes ∙ sym b.bytes)

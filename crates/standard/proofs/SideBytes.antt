@@ -2,7 +2,7 @@
 -- reads to that one; the same of a single record.
 -- One way, the bits are written down, the records one after the other, packed into bytes and set after the header's bytes; the other, each
 -- part that is read passes its check.
-use Rattle.std.specs.Prelude.{◌≡◌, refl, Bool, true, not, ◌&&◌, ◌↔◌, ℕ, zero, suc, ◌+◌, ◌-◌, ◌*◌, ◌^◌, ◌<◌, ◌≤◌, get_or, take, drop, eqb}
+use Rattle.std.specs.Prelude.{◌≡◌, refl, Bool, true, not, ◌&&◌, ◌↔◌, ℕ, zero, suc, ◌+◌, ◌-◌, ◌*◌, ◌^◌, ◌<◌, ◌≤◌, get_or, take, drop, eqb, Result, Ok, Err}
 use Rattle.std.proofs.Math.Path.{sym, ap}
 use Rattle.std.proofs.Common.{subst, ◌∙◌, add-zero, suc-mul, zero-mul, arith, length-take, length-drop, pow_pos, drop-drop}
 use Rattle.std.proofs.Math.Bool.{false}
@@ -13,7 +13,7 @@ use Rattle.std.proofs.Math.ListN.{length, replicate, length-append}
 use Rattle.std.proofs.lemmas.List.{length-replicate}
 use Rattle.std.proofs.Math.Seq.{take_at, drop_at}
 use Rattle.std.specs.Float.{nan}
-use Rattle.standard.specs.Told.{Told, refused, told, pick}
+use Rattle.standard.specs.Told.{pick}
 use Rattle.standard.specs.ToldLaws.{picked, passed, never, no_refusal, told_is, both_of, both}
 use Rattle.standard.specs.Bits.{bits, field}
 use Rattle.standard.specs.BitsLaws.{length-bits, field_lt, bits-after}
@@ -27,6 +27,7 @@ use Rattle.standard.specs.SideInfo.{begin_width, private_width, share_count, sha
 use Rattle.standard.specs.declared.FrameHeader.{FrameHeader}
 use Rattle.standard.specs.declared.SlotRecord.{SlotRecord}
 use Rattle.standard.specs.declared.SideInfo.{SideInfo}
+use Rattle.standard.specs.declared.Refusal.{Refusal}
 
 -- ---- an absent slot
 absent-is : (r : SlotRecord) → is_absent r ≡ true → absent ≡ r
@@ -96,7 +97,7 @@ length-slots mpeg1 slow (suc n) (r ∷ rs) e =
     simp (length-append, length-record, suc-mul) (omega (arith, length-slots mpeg1 slow n rs (both_of (is_record mpeg1 slow r) (fit_slots mpeg1 slow n rs) e).1))
 
 slots-back : (mpeg1 slow : Bool) (n : ℕ) (rs : List SlotRecord) → fit_slots mpeg1 slow n rs ≡ true
-    → records_of mpeg1 slow n (slots_bits mpeg1 n rs) ≡ told (take n rs)
+    → records_of mpeg1 slow n (slots_bits mpeg1 n rs) ≡ Ok (take n rs)
 unfolding fit_slots slots_bits records_of then_records
 slots-back mpeg1 slow zero rs e = refl
 slots-back mpeg1 slow (suc n) [] e = never e
@@ -206,12 +207,12 @@ module _ (mpeg1 two : Bool) (i : SideInfo) where
         ∙ (λ k. shares_length k + length-slots mpeg1 slow (slot_count mpeg1 two) i.slots side_is.4 k)) j)
         ∙ (layout mpeg1 two).whole
 
-    side_back : side_in mpeg1 two slow side_bits ≡ told i
+    side_back : side_in mpeg1 two slow side_bits ≡ Ok i
     unfolding side_in then_side
     side_back =
         ap (λ (l : List Bool). then_side mpeg1 two side_bits (records_of mpeg1 slow (slot_count mpeg1 two) l)) slots_at
         ∙ ap (then_side mpeg1 two side_bits) (slots-back mpeg1 slow (slot_count mpeg1 two) i.slots side_is.4)
-        ∙ (λ j. told (record { main_data_begin = begin_back j; scfsi = shares_all j; slots = slots-all j }))
+        ∙ (λ j. Ok (record { main_data_begin = begin_back j; scfsi = shares_all j; slots = slots-all j }))
       where
         shares_all : shares_in mpeg1 two side_bits ++ replicate (8 - share_count mpeg1 two) false ≡ i.scfsi
         shares_all =
@@ -226,7 +227,7 @@ module _ (mpeg1 two : Bool) (i : SideInfo) where
     -- after a header of any length, whose CRC fits if it has one
     side_after : (crc : Bool) (front : List ℕ)
         → crc && not (crc_fits (front ++ pack (side_bytes mpeg1 two) side_bits) (length front + side_bytes mpeg1 two)) ≡ false
-        → side_from crc mpeg1 two slow (length front) (front ++ pack (side_bytes mpeg1 two) side_bits) ≡ told i
+        → side_from crc mpeg1 two slow (length front) (front ++ pack (side_bytes mpeg1 two) side_bits) ≡ Ok i
     unfolding side_from
     side_after crc front fits =
         let n = side_bytes mpeg1 two in
@@ -242,14 +243,14 @@ unfolding fit_slots
 absents_known mpeg1 slow zero = refl
 absents_known mpeg1 slow (suc k) = both absent-known (absents_known mpeg1 slow k)
 
-told_records : (x : Told SlotRecord) (y : Told (List SlotRecord)) (rs : List SlotRecord) → then_records x y ≡ told rs → (r : SlotRecord)
-    × (l : List SlotRecord) × (x ≡ told r) × (y ≡ told l) × (r ∷ l ≡ rs)
+told_records : (x : Result SlotRecord Refusal) (y : Result (List SlotRecord) Refusal) (rs : List SlotRecord) → then_records x y ≡ Ok rs → (r : SlotRecord)
+    × (l : List SlotRecord) × (x ≡ Ok r) × (y ≡ Ok l) × (r ∷ l ≡ rs)
 unfolding then_records
-told_records (refused k) y rs e = let z : ◌≡◌ {A = ℕ} 0 1 = cc in let w : ⊥ = omega arith in absurd w
-told_records (told r) (refused k) rs e = let z : ◌≡◌ {A = ℕ} 0 1 = cc in let w : ⊥ = omega arith in absurd w
-told_records (told r) (told l) rs e = (r, l, refl, refl, told_is e)
+told_records (Err k) y rs e = let z : ◌≡◌ {A = ℕ} 0 1 = cc in let w : ⊥ = omega arith in absurd w
+told_records (Ok r) (Err k) rs e = let z : ◌≡◌ {A = ℕ} 0 1 = cc in let w : ⊥ = omega arith in absurd w
+told_records (Ok r) (Ok l) rs e = (r, l, refl, refl, told_is e)
 
-records-known : (mpeg1 slow : Bool) (n : ℕ) (b : List Bool) (rs : List SlotRecord) (k : ℕ) → records_of mpeg1 slow n b ≡ told rs
+records-known : (mpeg1 slow : Bool) (n : ℕ) (b : List Bool) (rs : List SlotRecord) (k : ℕ) → records_of mpeg1 slow n b ≡ Ok rs
     → (fit_slots mpeg1 slow n (rs ++ replicate k absent) ≡ true) × (length rs ≡ n)
 unfolding records_of fit_slots
 records-known mpeg1 slow zero b rs k e =
@@ -260,13 +261,13 @@ records-known mpeg1 slow (suc n) b rs k e =
     subst (λ (l : List SlotRecord). (fit_slots mpeg1 slow (suc n) (l ++ replicate k absent) ≡ true) × (length l ≡ suc n)) w.4
     (both (record_known mpeg1 slow (take (record_width mpeg1) b) w.0 w.2) h.0, ap suc h.1)
 
-told_side : (mpeg1 two : Bool) (b : List Bool) (y : Told (List SlotRecord)) (i : SideInfo) → then_side mpeg1 two b y ≡ told i → (rs : List SlotRecord)
-    × (y ≡ told rs) × (then_side mpeg1 two b (told rs) ≡ told i)
+told_side : (mpeg1 two : Bool) (b : List Bool) (y : Result (List SlotRecord) Refusal) (i : SideInfo) → then_side mpeg1 two b y ≡ Ok i → (rs : List SlotRecord)
+    × (y ≡ Ok rs) × (then_side mpeg1 two b (Ok rs) ≡ Ok i)
 unfolding then_side
-told_side mpeg1 two b (refused k) i e = let z : ◌≡◌ {A = ℕ} 0 1 = cc in let w : ⊥ = omega arith in absurd w
-told_side mpeg1 two b (told rs) i e = (rs, refl, e)
+told_side mpeg1 two b (Err k) i e = let z : ◌≡◌ {A = ℕ} 0 1 = cc in let w : ⊥ = omega arith in absurd w
+told_side mpeg1 two b (Ok rs) i e = (rs, refl, e)
 
-in_known : (mpeg1 two slow : Bool) (b : List Bool) (i : SideInfo) → length b ≡ 8 * side_bytes mpeg1 two → side_in mpeg1 two slow b ≡ told i
+in_known : (mpeg1 two slow : Bool) (b : List Bool) (i : SideInfo) → length b ≡ 8 * side_bytes mpeg1 two → side_in mpeg1 two slow b ≡ Ok i
     → is_side_by mpeg1 two slow i ≡ true
 unfolding side_in then_side is_side_by are_shares are_slots
 in_known mpeg1 two slow b i l e =
@@ -290,7 +291,7 @@ in_known mpeg1 two slow b i l e =
     slots-four : (rs : List SlotRecord) → length rs ≡ slot_count mpeg1 two → length (rs ++ replicate (4 - slot_count mpeg1 two) absent) ≡ 4
     slots-four rs h = length-append rs (replicate (4 - slot_count mpeg1 two) absent) ∙ simp (h, length-replicate) (omega (arith, (layout mpeg1 two).slots))
 
-from_known : (crc mpeg1 two slow : Bool) (from : ℕ) (s : List ℕ) (i : SideInfo) → side_from crc mpeg1 two slow from s ≡ told i
+from_known : (crc mpeg1 two slow : Bool) (from : ℕ) (s : List ℕ) (i : SideInfo) → side_from crc mpeg1 two slow from s ≡ Ok i
     → is_side_by mpeg1 two slow i ≡ true
 unfolding side_from
 from_known crc mpeg1 two slow from s i e =
@@ -308,11 +309,11 @@ beginning_bytes : (h : FrameHeader) (i : SideInfo) → is_header h ≡ true → 
 unfolding beginning
 beginning_bytes h i known = bytes-append (header_bytes h (fitting h (bits_under h i))) _ (bytes-header h known _) (bytes-pack _ _)
 
-beginning_header : (h : FrameHeader) (i : SideInfo) → is_header h ≡ true → header_of (beginning h i) ≡ told h
+beginning_header : (h : FrameHeader) (i : SideInfo) → is_header h ≡ true → header_of (beginning h i) ≡ Ok h
 unfolding beginning
 beginning_header h i known = header-back h known _ _
 
-beginning_side : (h : FrameHeader) (i : SideInfo) → is_header h ≡ true → is_side h i ≡ true → side_of h (beginning h i) ≡ told i
+beginning_side : (h : FrameHeader) (i : SideInfo) → is_header h ≡ true → is_side h i ≡ true → side_of h (beginning h i) ≡ Ok i
 unfolding beginning side_of is_side
 beginning_side h i known e =
     let m = is_mpeg1 h.version in
@@ -325,13 +326,13 @@ beginning_side h i known e =
     ∙ side_after m t i w e h.crc front
     (ap (λ (from : ℕ). h.crc && not (crc_fits s (from + side_bytes m t))) (sym long) ∙ fits_after h (side_bytes m t) (side_bits m t i) (side_length m t i w e))
 
-pub side_known : (h : FrameHeader) (i : SideInfo) (s : List ℕ) → is_header h ≡ true → side_of h s ≡ told i → is_side h i ≡ true
+pub side_known : (h : FrameHeader) (i : SideInfo) (s : List ℕ) → is_header h ≡ true → side_of h s ≡ Ok i → is_side h i ≡ true
 unfolding side_of is_side
 side_known h i s known e = from_known h.crc (is_mpeg1 h.version) (is_two h.channels) (is_slow h.rate) (header_size h) s i (sym (picked _ known) ∙ e)
 
 -- THE STATEMENT: under a header that bytes read to, side information is accepted exactly when some bytes read to that header and to it
 pub side_read : (h : FrameHeader) (i : SideInfo) → is_header h ≡ true
-    → (is_side h i ≡ true) ↔ ((s : List ℕ) × Bytes s × (header_of s ≡ told h) × (side_of h s ≡ told i))
+    → (is_side h i ≡ true) ↔ ((s : List ℕ) × Bytes s × (header_of s ≡ Ok h) × (side_of h s ≡ Ok i))
 side_read h i known = (
   λ e. (beginning h i, beginning_bytes h i known, beginning_header h i known, beginning_side h i known e),
   λ w. side_known h i w.0 known w.3,
@@ -377,7 +378,7 @@ with-known false false slow r e = both e (both absent-known (both absent-known (
 -- information that has it in a slot of the frame
 pub slot_read : (h : FrameHeader) (r : SlotRecord) → is_header h ≡ true
     → (is_record_under h r ≡ true)
-    ↔ ((s : List ℕ) × (i : SideInfo) × (n : ℕ) × Bytes s × (n < granules h * channel_count h) × (header_of s ≡ told h) × (side_of h s ≡ told i)
+    ↔ ((s : List ℕ) × (i : SideInfo) × (n : ℕ) × Bytes s × (n < granules h * channel_count h) × (header_of s ≡ Ok h) × (side_of h s ≡ Ok i)
     × (get_or i.slots n absent ≡ r))
 unfolding is_side granules channel_count
 slot_read h r known =

@@ -1,12 +1,12 @@
 -- What bounds the slots of a frame, whatever the bytes: at most 576 numbers each, none above 8,206 in magnitude; no slot without a codeword
 -- (25); and, of side information that bytes read to, four slots of 4,095 bits at most, 16,380 in all.
-use Rattle.std.specs.Prelude.{◌≡◌, refl, Bool, true, false, ◌&&◌, leb, ltb, get_or, take}
+use Rattle.std.specs.Prelude.{◌≡◌, refl, Bool, true, false, ◌&&◌, leb, ltb, get_or, take, Result}
 use mathlib.Core.List.{List, [], ◌∷◌}
 use Prim.Native.Nat.{ℕ, zero, suc, ◌+◌, ◌*◌, ◌≤◌, ◌<◌, min}
 use Rattle.std.proofs.Math.Decide.{dec_le}
 use Rattle.std.proofs.Common.{arith, length-take}
 use Rattle.std.proofs.Math.ListN.{length}
-use Rattle.standard.specs.Told.{Told, told_or}
+use Rattle.standard.specs.Told.{told_or}
 use Rattle.standard.specs.ToldLaws.{either_way}
 use Rattle.standard.specs.Codes.{word_of}
 use Rattle.standard.specs.Header.{is_mpeg1, is_two, is_slow, granules_in, channels_in, granules, channel_count, is_header}
@@ -25,6 +25,7 @@ use Rattle.standard.specs.declared.SlotRecord.{SlotRecord}
 use Rattle.standard.specs.declared.Setting.{Setting}
 use Rattle.standard.specs.declared.Shape.{Shape}
 use Rattle.standard.specs.declared.Refusal.TheVariants.{MissingBits}
+use Rattle.standard.specs.declared.Refusal.{Refusal}
 
 -- ---- what holds of each slot's own bits, and of a missing slot, holds of each slot of a frame
 module _ (P : Outcome → Type 0) (Q : SlotRecord → Type 0) (missing : P (stopped MissingBits))
@@ -96,8 +97,8 @@ unfolding read_slots told_or
 read-room h i s d =
     elim (dec_le 2304 d) [
       | yes k ↦
-          either_way (λ (t : Told (List Outcome)). 576 * length (told_or [] t) ≤ d) (ltb d 2304) _ _ (λ e. omega arith)
-          (λ e. either_way (λ (t : Told (List Outcome)). 576 * length (told_or [] t) ≤ d) (is_header h && is_side h i) _ _
+          either_way (λ (t : Result (List Outcome) Refusal). 576 * length (told_or [] t) ≤ d) (ltb d 2304) _ _ (λ e. omega arith)
+          (λ e. either_way (λ (t : Result (List Outcome) Refusal). 576 * length (told_or [] t) ≤ d) (is_header h && is_side h i) _ _
           (λ f. omega (arith, length-slots h i s, slots-le h i)) (λ f. omega arith))
       | no k ↦ rw (few_numbers h i s d (omega arith)) (omega arith)
     ]

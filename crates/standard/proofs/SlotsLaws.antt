@@ -1,7 +1,7 @@
 -- Demand 3, over the definition. A slot is missing exactly when the lengths up to and including its own exceed the bits there are; from the
 -- same bytes with any others after them only a missing slot may come to something else, and its numbers too; and a slot's outcome depends
 -- on its own bits and, where it shares, on its channel's granule 0 slot alone.
-use Rattle.std.specs.Prelude.{◌≡◌, Bool, true, false, ◌&&◌, ◌↔◌, ℤ, take, drop, replicate}
+use Rattle.std.specs.Prelude.{◌≡◌, Bool, true, false, ◌&&◌, ◌↔◌, ℤ, take, drop, replicate, Result, Ok, Err}
 use Rattle.std.proofs.Math.Path.{refl, ap}
 use Rattle.std.proofs.Common.{sym, ◌∙◌, add-zero, le-leb, lt-ltb, le-ltb, take-take, drop-drop, take_at, drop_at, length-take-le}
 use mathlib.Core.List.{List, [], ◌∷◌, ◌++◌, append_assoc, append-nil, map}
@@ -12,7 +12,7 @@ use Rattle.std.proofs.lemmas.Bool.{lt-leb}
 use Rattle.std.proofs.Math.ListN.{length, get_or, length-append}
 use Rattle.std.proofs.lemmas.List.{length-replicate}
 use Rattle.std.proofs.lemmas.List.Edits.{length-paste, drop-paste}
-use Rattle.standard.specs.Told.{Told, told, told_or, verdict_of, refused}
+use Rattle.standard.specs.Told.{told_or, verdict_of}
 use Rattle.standard.specs.ToldLaws.{picked, passed, never, both}
 use Rattle.standard.specs.Bits.{bits}
 use Rattle.standard.specs.BitsLaws.{bits-append}
@@ -22,14 +22,13 @@ use Rattle.standard.specs.Record.{past_record}
 use Rattle.standard.proofs.HaltLaws.{allowed, slot_allowed, is_other, not_missing}
 use Rattle.standard.specs.SideInfo.{is_side}
 use Rattle.standard.specs.Numbers.{padded}
-use Rattle.standard.specs.Slots.{Outcome, stopped, holds, is_stopped, long_of, setting_of, mate_of, slot_of, slot_in, then_slots, slots_from, slots_of, slot_told, lacking_slot, slots_told, numbers_after, numbers_from, read_slots, SlotsRead, records, start_of, outcome_of, part_of, own_of}
+use Rattle.standard.specs.Slots.{Outcome, stopped, holds, is_stopped, long_of, setting_of, mate_of, slot_of, slot_in, then_slots, slots_from, slots_of, slot_told, slots_answer, slots_told, numbers_after, numbers_from, read_slots, SlotsRead, records, start_of, outcome_of, part_of, own_of}
 use Rattle.standard.specs.declared.Setting.{Setting}
 use Rattle.standard.specs.declared.FrameHeader.{FrameHeader}
 use Rattle.standard.specs.declared.SlotRecord.{SlotRecord}
 use Rattle.standard.specs.declared.SideInfo.{SideInfo}
-use Rattle.standard.specs.declared.SlotsAnswer.{SlotsAnswer}
 use Rattle.standard.specs.declared.SlotAnswer.{SlotAnswer}
-use Rattle.standard.specs.declared.Verdict.TheVariants.{Accepted, Refused}
+use Rattle.standard.specs.declared.SlotAnswer.TheVariants.{Lacking}
 use Rattle.standard.specs.declared.Refusal.{Refusal}
 use Rattle.standard.specs.declared.Refusal.TheVariants.{UnfitMemory, MadeUpRecord, MissingBits}
 
@@ -268,42 +267,38 @@ own_bits xs ys at bt g r lost old h k e = slot_in-read xs at g r lost old h ∙ 
 
 -- ---- what the call comes to
 module _ (h : FrameHeader) (i : SideInfo) (s : List ℕ) (n : ℕ) where
-  pub few_numbers : n < 2304 → read_slots h i s n ≡ refused UnfitMemory
+  pub few_numbers : n < 2304 → read_slots h i s n ≡ Err UnfitMemory
   unfolding read_slots
   few_numbers k = picked _ (lt-ltb n 2304 k)
 
-  pub made-up_call : 2304 ≤ n → is_header h && is_side h i ≡ false → read_slots h i s n ≡ refused MadeUpRecord
+  pub made-up_call : 2304 ≤ n → is_header h && is_side h i ≡ false → read_slots h i s n ≡ Err MadeUpRecord
   unfolding read_slots
   made-up_call k e = passed _ (le-ltb n 2304 k) ∙ passed _ e
 
-  pub read-call : 2304 ≤ n → is_header h ≡ true → is_side h i ≡ true → read_slots h i s n ≡ told (slots_of h i s)
+  pub read-call : 2304 ≤ n → is_header h ≡ true → is_side h i ≡ true → read_slots h i s n ≡ Ok (slots_of h i s)
   unfolding read_slots
   read-call k e f = passed _ (le-ltb n 2304 k) ∙ picked _ (both e f)
 
-pub slots-refused : {d left : List ℤ} {t : Told (List Outcome)} {r : SlotsAnswer} {why : Refusal} → t ≡ refused why
-    → (r.verdict ≡ Refused why) × (r.slots ≡ slots_told []) → left ≡ d → SlotsRead d t r left
-unfolding verdict_of told_or numbers_from
+pub slots-refused : {d left : List ℤ} {t : Result (List Outcome) Refusal} {r : Result (List SlotAnswer) Refusal} {why : Refusal} → t ≡ Err why
+    → r ≡ Err why → left ≡ d → SlotsRead d t r left
+unfolding slots_answer told_or numbers_from
 slots-refused {d = d} e a l = record {
-  verdict = a.0 ∙ sym (ap verdict_of e);
-  slots = a.1 ∙ sym (ap (λ (x : Told (List Outcome)). slots_told (told_or [] x)) e);
-  numbers = l ∙ sym (ap (λ (x : Told (List Outcome)). numbers_from 0 (told_or [] x) d) e);
+  answer = a ∙ sym (ap slots_answer e);
+  numbers = l ∙ sym (ap (λ (x : Result (List Outcome) Refusal). numbers_from 0 (told_or [] x) d) e);
 }
 
-pub slots-told : {d left : List ℤ} {t : Told (List Outcome)} {os : List Outcome} {r : SlotsAnswer} → t ≡ told os → r.verdict ≡ Accepted
-    → (r.slots ≡ slots_told os) × (left ≡ numbers_from 0 os d) → SlotsRead d t r left
-unfolding verdict_of told_or
+pub slots-told : {d left : List ℤ} {t : Result (List Outcome) Refusal} {os : List Outcome} {r : Result (List SlotAnswer) Refusal} {l : List SlotAnswer} → t ≡ Ok os
+    → r ≡ Ok l → (l ≡ slots_told os) × (left ≡ numbers_from 0 os d) → SlotsRead d t r left
+unfolding slots_answer told_or
 slots-told {d = d} e v a = record {
-  verdict = v ∙ sym (ap verdict_of e);
-  slots = a.0 ∙ sym (ap (λ (x : Told (List Outcome)). slots_told (told_or [] x)) e);
-  numbers = a.1 ∙ sym (ap (λ (x : Told (List Outcome)). numbers_from 0 (told_or [] x) d) e);
+  answer = v ∙ ap Ok a.0 ∙ sym (ap slots_answer e);
+  numbers = a.1 ∙ sym (ap (λ (x : Result (List Outcome) Refusal). numbers_from 0 (told_or [] x) d) e);
 }
 
 -- ---- one answer and one state
-pub one-slots : {d left gone : List ℤ} {t : Told (List Outcome)} {r q : SlotsAnswer} → SlotsRead d t r left → SlotsRead d t q gone → (r ≡ q) × (left ≡ gone)
-one-slots {r = r} {q = q} a b =
-    let v = a.verdict ∙ sym b.verdict in
-    let s = a.slots ∙ sym b.slots in
-    (λ j. record { verdict = v j; slots = s j }, a.numbers ∙ sym b.numbers)
+pub one-slots : {d left gone : List ℤ} {t : Result (List Outcome) Refusal} {r q : Result (List SlotAnswer) Refusal} → SlotsRead d t r left → SlotsRead d t q gone
+    → (r ≡ q) × (left ≡ gone)
+one-slots a b = (a.answer ∙ sym b.answer, a.numbers ∙ sym b.numbers)
 
 -- ---- what is answered of the n-th slot
 told_from : (os : List Outcome) (l : List SlotAnswer) (n : ℕ) (o : Outcome) (z : SlotAnswer) → n < length os
@@ -312,7 +307,7 @@ told_from [] l n o z h = absurd (omega arith)
 told_from (x ∷ os) l zero o z h = refl
 told_from (x ∷ os) l (suc n) o z h = told_from os l n o z (omega arith)
 
-lacking_from : (os : List Outcome) (k n : ℕ) → length os ≤ n → get_or (map slot_told os ++ replicate k lacking_slot) n lacking_slot ≡ lacking_slot
+lacking_from : (os : List Outcome) (k n : ℕ) → length os ≤ n → get_or (map slot_told os ++ replicate k Lacking) n Lacking ≡ Lacking
 lacking_from [] zero n h = refl
 lacking_from [] (suc k) zero h = refl
 lacking_from [] (suc k) (suc n) h = lacking_from [] k n (omega arith)
@@ -320,13 +315,13 @@ lacking_from (x ∷ os) k zero h = absurd (omega arith)
 lacking_from (x ∷ os) k (suc n) h = lacking_from os k n (omega arith)
 
 module _ (l : List SlotAnswer) (os : List Outcome) (e : l ≡ slots_told os) (n : ℕ) where
-  at_slot : get_or l n lacking_slot ≡ get_or (slots_told os) n lacking_slot
-  at_slot = ap (λ (m : List SlotAnswer). get_or m n lacking_slot) e
+  at_slot : get_or l n Lacking ≡ get_or (slots_told os) n Lacking
+  at_slot = ap (λ (m : List SlotAnswer). get_or m n Lacking) e
 
-  pub told_at : n < length os → get_or l n lacking_slot ≡ slot_told (get_or os n (stopped MissingBits))
+  pub told_at : n < length os → get_or l n Lacking ≡ slot_told (get_or os n (stopped MissingBits))
   unfolding slots_told
-  told_at h = at_slot ∙ told_from os (replicate (4 - length os) lacking_slot) n (stopped MissingBits) lacking_slot h
+  told_at h = at_slot ∙ told_from os (replicate (4 - length os) Lacking) n (stopped MissingBits) Lacking h
 
-  pub lacking_at : length os ≤ n → get_or l n lacking_slot ≡ lacking_slot
+  pub lacking_at : length os ≤ n → get_or l n Lacking ≡ Lacking
   unfolding slots_told
   lacking_at h = at_slot ∙ lacking_from os (4 - length os) n h

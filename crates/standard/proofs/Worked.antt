@@ -1,6 +1,6 @@
 -- Worked from bytes (docs/RULES.md, Frame F): the starred rows in one table with a single statement, and the others, computed from the definition.
-use Rattle.std.specs.Prelude.{◌≡◌, refl, List, [], ◌∷◌, ◌++◌, ℕ, zero, suc, ◌*◌, ℤ, pos, negsuc, length, take, replicate, set}
-use Rattle.standard.specs.Told.{pick, told_or}
+use Rattle.std.specs.Prelude.{◌≡◌, refl, List, [], ◌∷◌, ◌++◌, ℕ, zero, suc, ◌*◌, ℤ, pos, negsuc, length, take, replicate, set, Ok, Err}
+use Rattle.standard.specs.Told.{pick, told_or, Verdict}
 use Rattle.standard.specs.Bits.{bit_at, bits, between, value_from, value, field, flag, field_at}
 use Rattle.standard.specs.Rows.{member, later, place}
 use Rattle.standard.specs.Crc.{differ, added, taps, feed, fed, check_word, covered, crc_fits}
@@ -14,7 +14,7 @@ use Rattle.standard.specs.Factors.{plan_by, plan_of, group, groups_from, plan_bi
 use Rattle.standard.specs.Numbers.{escaped, magnitude_of, sign_of, signed, further, then_sign, number_in, two_last, two_first, two_of, pair_after, pair_word, pair_of, quad_last, quad_first, quad_word, quad_of, regions_by, table_at, prepend, then_pairs, pairs, then_quads, quads, then_rest, numbers_by, quiet, numbers_of, padded}
 use Rattle.standard.specs.Slots.{Outcome, stopped, holds, is_stopped, long_of as longFactorsOf, any_of, with_factors, slot_by, slot_of, shares_of, setting_of, alone, mate_of, slot_in, then_slots, slots_from, slots_of}
 use Rattle.standard.specs.Reservoir.{Kept, untouched, keeping, reaching, adding, turn_of}
-use Rattle.standard.specs.Frame.{Step, no_step, short_step, full_step, with_turn, with_side, with_header, frame_of}
+use Rattle.standard.specs.Frame.{Step, step_verdict, step_header, step_info, step_slots, step_kept, with_turn, with_side, with_header, frame_of}
 use Rattle.standard.specs.Reorder.{band_order, order_from, order_of, gathered, first_short, reordered_from}
 use Rattle.standard.specs.declared.SampleRate.{SampleRate}
 use Rattle.standard.specs.declared.SampleRate.TheVariants.{Hz44100}
@@ -22,8 +22,6 @@ use Rattle.standard.specs.declared.Shape.{Shape}
 use Rattle.standard.specs.declared.Shape.TheVariants.{AllShort, LongThenShort}
 use Rattle.standard.specs.declared.Refusal.TheVariants.{MissingBits, FactorOverrun, LostShare, PairOverrun, ShortReservoir, ReservedVersion, ReservedLayer, OtherLayer, FreeBitrate, ForbiddenBitrate, ReservedRate, AbsentBytes, WrongCrc, TooManyPairs, MixedBlock}
 use Rattle.standard.specs.declared.Refusal.{Refusal}
-use Rattle.standard.specs.declared.Verdict.{Verdict}
-use Rattle.standard.specs.declared.Verdict.TheVariants.{Accepted, Refused}
 
 -- ---- frame F and its neighbours
 abbrev pub frame_f : List ℕ
@@ -58,16 +56,16 @@ reaching_back n = set frame_f 4 n
 
 -- ---- a frame's step from its bytes and the reservoir's, and its parts
 unfoldable pub step : List ℕ → List ℕ → Step
-unfolding pick bit_at bits between value_from value field flag field_at member later place low_bits pair quad starts first begun decode silent table1 table_b codes published word_of escapes escape_width long_rows short_rows long_start short_start slen_rows slen1 slen2 range_in low_range ordinary_lengths intensity_lengths low_lengths long_counts short_counts mixed_counts intensity_long_counts intensity_short_counts intensity_mixed_counts low_counts bitrates rates version_of emphasis_of channels_of fields last_bytes second_byte header_of same_bitrate same_rate is_header header_size data_size frame_length side_size main_size granules channel_count no_header block_of preflag_of long_of switched_of record_in record_of absent then_records records_of then_side side_in absent_from side_from side_of no_side differ added taps feed fed check_word covered crc_fits plan_by plan_of group groups_from plan_bits factors_from long_factors short_factors escaped magnitude_of sign_of signed further then_sign number_in two_last two_first two_of pair_after pair_word pair_of quad_last quad_first quad_word quad_of regions_by table_at prepend then_pairs pairs then_quads quads then_rest numbers_by quiet numbers_of padded is_stopped longFactorsOf any_of with_factors slot_by slot_of shares_of setting_of alone mate_of slot_in then_slots slots_from slots_of reaching adding turn_of no_step short_step full_step with_turn with_side with_header frame_of
+unfolding pick bit_at bits between value_from value field flag field_at member later place low_bits pair quad starts first begun decode silent table1 table_b codes published word_of escapes escape_width long_rows short_rows long_start short_start slen_rows slen1 slen2 range_in low_range ordinary_lengths intensity_lengths low_lengths long_counts short_counts mixed_counts intensity_long_counts intensity_short_counts intensity_mixed_counts low_counts bitrates rates version_of emphasis_of channels_of fields last_bytes second_byte header_of same_bitrate same_rate is_header header_size data_size frame_length side_size main_size granules channel_count no_header block_of preflag_of long_of switched_of record_in record_of absent then_records records_of then_side side_in absent_from side_from side_of no_side differ added taps feed fed check_word covered crc_fits plan_by plan_of group groups_from plan_bits factors_from long_factors short_factors escaped magnitude_of sign_of signed further then_sign number_in two_last two_first two_of pair_after pair_word pair_of quad_last quad_first quad_word quad_of regions_by table_at prepend then_pairs pairs then_quads quads then_rest numbers_by quiet numbers_of padded is_stopped longFactorsOf any_of with_factors slot_by slot_of shares_of setting_of alone mate_of slot_in then_slots slots_from slots_of reaching adding turn_of with_turn with_side with_header frame_of
 step s old = frame_of s old
 
 unfoldable pub verdict : List ℕ → Verdict
 unfolding step
-verdict s = (step s []).verdict
+verdict s = step_verdict (step s [])
 
 unfoldable pub slots : List ℕ → List Outcome
 unfolding step
-slots s = (step s []).slots
+slots s = step_slots (step s [])
 
 -- ---- the starred rows
 pub data Row : Type 0 where
@@ -80,10 +78,10 @@ pub data Row : Type 0 where
 
 -- a frame read from an empty reservoir, and one refused
 abbrev wholly : List ℕ → Outcome → Row
-wholly s o = of_frame s [] Accepted (o ∷ []) (keeping main_f)
+wholly s o = of_frame s [] (Ok tt) (o ∷ []) (keeping main_f)
 
 abbrev refused_for : List ℕ → Refusal → Row
-refused_for s r = of_frame s [] (Refused r) [] untouched
+refused_for s r = of_frame s [] (Err r) [] untouched
 
 abbrev plain_table : List Row
 plain_table =
@@ -105,7 +103,7 @@ plain_table =
     refused_for (set frame_f 1 0xEB) ReservedVersion ∷
     refused_for (set frame_f 1 0xF1) ReservedLayer ∷
     refused_for (set frame_f 1 0xF5) OtherLayer ∷
-    of_frame (reaching_back 1) [] (Refused ShortReservoir) [] (keeping main_f) ∷
+    of_frame (reaching_back 1) [] (Err ShortReservoir) [] (keeping main_f) ∷
     of_order Hz44100 AllShort (up_from 1 12)
     (pos 1 ∷ pos 5 ∷ pos 9 ∷ pos 2 ∷ pos 6 ∷ pos 10 ∷ pos 3 ∷ pos 7 ∷ pos 11 ∷ pos 4 ∷ pos 8 ∷ pos 12 ∷ []) ∷
     []
@@ -116,7 +114,7 @@ abbrev frame_with : List ℕ → List ℕ → List ℕ
 frame_with side main = 0xFF ∷ 0xF3 ∷ 0x14 ∷ 0xC0 ∷ (side ++ main)
 
 abbrev with : List ℕ → List ℕ → List Outcome → Row
-with s main os = of_frame s [] Accepted os (keeping main)
+with s main os = of_frame s [] (Ok tt) os (keeping main)
 
 -- F's main data with another first byte
 abbrev main_by : ℕ → List ℕ
@@ -241,7 +239,7 @@ table = plain_table ++ added_table ++ quiet_table ++ crc_table
 -- F's slot from other main data than its own
 unfoldable pub slots_by : List ℕ → List ℕ → List Outcome
 unfolding step
-slots_by s main = slots_of (step s []).header (step s []).info main
+slots_by s main = slots_of (step_header (step s [])) (step_info (step s [])) main
 
 unfoldable pub ordered : SampleRate → Shape → List ℤ → List ℤ
 unfolding reordered_from gathered order_of order_from band_order short_rows short_start
@@ -249,7 +247,7 @@ ordered rate k d = reordered_from rate (first_short k) d
 
 -- a row is so
 abbrev pub IsSo : Row → Type 0
-IsSo (of_frame s old v os k) = ((step s old).verdict ≡ v) × ((step s old).slots ≡ os) × ((step s old).kept ≡ k)
+IsSo (of_frame s old v os k) = (step_verdict (step s old) ≡ v) × (step_slots (step s old) ≡ os) × (step_kept (step s old) ≡ k)
 IsSo (of_main s main os) = slots_by s main ≡ os
 IsSo (of_order rate k before after) = (rest : List ℤ) → take (length after) (ordered rate k (before ++ rest)) ≡ after
 
@@ -353,16 +351,16 @@ unfolding value value_from check_word fed
 no_bits = refl
 
 -- ---- the other rows: after the frame that was refused by 13
-pub then_begin_11 : (step (reaching_back 11) main_f).slots ≡ read numbers_f ∷ []
+pub then_begin_11 : step_slots (step (reaching_back 11) main_f) ≡ read numbers_f ∷ []
 unfolding step
 then_begin_11 = refl
 
-pub then_begin_12 : (step (reaching_back 12) main_f).verdict ≡ Refused ShortReservoir
+pub then_begin_12 : step_verdict (step (reaching_back 12) main_f) ≡ Err ShortReservoir
 unfolding step
 then_begin_12 = refl
 
 -- of a longer reservoir it is the last bytes that count
-pub begin_11_of_12 : (step (reaching_back 11) (0xFF ∷ main_f)).slots ≡ read numbers_f ∷ []
+pub begin_11_of_12 : step_slots (step (reaching_back 11) (0xFF ∷ main_f)) ≡ read numbers_f ∷ []
 unfolding step
 begin_11_of_12 = refl
 
@@ -376,11 +374,11 @@ unfolding sizes
 fffb9000 = refl
 
 -- big_values: the last three bits of byte 6 and the first six of byte 7
-pub big_values_288 : verdict (set (set frame_f 6 0x44) 7 0x83) ≡ Accepted
+pub big_values_288 : verdict (set (set frame_f 6 0x44) 7 0x83) ≡ Ok tt
 unfolding verdict
 big_values_288 = refl
 
-pub big_values_289 : verdict (set (set frame_f 6 0x44) 7 0x87) ≡ Refused TooManyPairs
+pub big_values_289 : verdict (set (set frame_f 6 0x44) 7 0x87) ≡ Err TooManyPairs
 unfolding verdict
 big_values_289 = refl
 

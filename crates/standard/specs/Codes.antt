@@ -1,12 +1,22 @@
 -- The published Huffman codes (11172-3, Annex B, Table B.7; 13818-3 keeps them): for each table the list of its codewords, values beside
 -- bits, a line each. To read a codeword is to take the entry that the next bits start with.
-use Rattle.std.specs.Prelude.{Bool, true, false, ◌&&◌, ◌||◌, List, [], ◌∷◌, ℕ, zero, suc, ◌+◌, ◌*◌, ◌/◌, ◌%◌, ◌^◌, eqb, length, get_or}
+use Rattle.std.specs.Prelude.{Bool, true, false, ◌&&◌, ◌||◌, List, [], ◌∷◌, ℕ, zero, suc, ◌+◌, ◌*◌, ◌/◌, ◌%◌, ◌^◌, eqb, Result, Ok, Err, length, get_or}
 use Rattle.std.specs.Bool.{beq}
 use Rattle.standard.specs.Told.{pick}
-use Rattle.standard.specs.declared.Codeword.{Codeword}
-use Rattle.standard.specs.declared.Codeword.TheVariants.{Coded, Cut, Alien}
+use Rattle.standard.specs.declared.Taken.{Taken}
+use Rattle.standard.specs.declared.Unread.{Unread}
+use Rattle.standard.specs.declared.Unread.TheVariants.{Cut, Alien}
 
--- a codeword: what it stands for, and its bits
+-- what was read, and how many bits it takes
+abbrev pub taken : {A : Type 0} → A → ℕ → Taken A
+taken v n = record { value = v; used = n }
+
+-- one codeword: what it stands for and how many bits it takes; or the bits end within one; or they start none. A pair (x, y) is the value 16 x + y, a quad
+-- (v, w, x, y) the value 8 v + 4 w + 2 x + y
+abbrev pub Codeword : Type 0
+Codeword = Result (Taken ℕ) Unread
+
+-- a codeword of a table: what it stands for, and its bits
 pub data Entry : Type 0 where
   entry : ℕ → List Bool → Entry
 
@@ -32,7 +42,7 @@ starts (w ∷ ws) (b ∷ bs) = beq w b && starts ws bs
 -- the first entry that the bits b start with; where there is none, o
 unfoldable pub first : List Entry → List Bool → Codeword → Codeword
 first [] b o = o
-first (entry v w ∷ es) b o = pick (starts w b) (Coded v (length w)) (first es b o)
+first (entry v w ∷ es) b o = pick (starts w b) (Ok (taken v (length w))) (first es b o)
 
 -- the bits b are the start of some entry's
 unfoldable pub begun : List Entry → List Bool → Bool
@@ -41,7 +51,7 @@ begun (entry v w ∷ es) b = starts b w || begun es b
 
 -- one codeword from the bits b on
 unfoldable pub decode : List Entry → List Bool → Codeword
-decode es b = first es b (pick (begun es b) Cut Alien)
+decode es b = first es b (pick (begun es b) (Err Cut) (Err Alien))
 
 -- ---- tables 0, 4 and 14: no bits, and always 0, 0
 unfoldable pub silent : List Entry

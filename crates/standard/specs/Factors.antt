@@ -7,6 +7,7 @@ use Rattle.standard.specs.Lengths.{slen1, slen2, low_lengths, low_counts}
 use Rattle.standard.specs.Record.{shape_of}
 use Rattle.standard.specs.declared.SlotRecord.{SlotRecord}
 use Rattle.standard.specs.declared.Setting.{Setting}
+use Rattle.standard.specs.declared.Group.{Group}
 use Rattle.standard.specs.declared.Plan.{Plan}
 use Rattle.standard.specs.declared.Shape.{Shape}
 use Rattle.standard.specs.declared.Shape.TheVariants.{AllLong, AllShort, LongThenShort}
@@ -26,9 +27,12 @@ abbrev pub factor_by : Source → ℕ → List Bool → ℕ
 factor_by shared old b = old
 factor_by (coded w) old b = value (take w b)
 
--- ---- the plan of a slot: four groups in turn
-abbrev planned : List ℕ → List ℕ → List Bool → Plan
-planned ns ws xs = record { counts = ns; lengths = ws; shares = xs }
+-- ---- the plan of a slot: four groups in turn, the g-th of the g-th count, length and sharing bit
+abbrev pub group_at : List ℕ → List ℕ → List Bool → ℕ → Group
+group_at ns ws xs g = record { count = get_or ns g 0; length = get_or ws g 0; shared = get_or xs g false }
+
+abbrev pub planned : List ℕ → List ℕ → List Bool → Plan
+planned ns ws xs = record { groups = group_at ns ws xs 0 ∷ group_at ns ws xs 1 ∷ group_at ns ws xs 2 ∷ group_at ns ws xs 3 ∷ [] }
 
 -- MPEG-1: scfsi_band 0 to 3 are the long factors from 0, 6, 11 and 16 on; short bands 0 to 5 have the first length, 6 to 11 the second; a mixed block
 -- has eight long factors and bands 3 to 5 of the first length, and 6 to 11 of the second.
@@ -50,16 +54,19 @@ may_share AllShort = false
 may_share LongThenShort = false
 
 -- where each factor comes from: so many from one source for each group
-unfoldable pub group : Plan → ℕ → List Source
-group p g = replicate (get_or p.counts g 0) (pick (get_or p.shares g false) shared (coded (get_or p.lengths g 0)))
+abbrev pub source_of : Group → Source
+source_of g = pick g.shared shared (coded g.length)
 
--- k groups from the g-th on
-unfoldable pub groups_from : Plan → ℕ → ℕ → List Source
-groups_from p g zero = []
-groups_from p g (suc k) = group p g ++ groups_from p (suc g) k
+unfoldable pub group : Group → List Source
+group g = replicate g.count (source_of g)
+
+-- groups in turn
+unfoldable pub groups_from : List Group → List Source
+groups_from [] = []
+groups_from (g ∷ gs) = group g ++ groups_from gs
 
 abbrev pub sources_of : Plan → List Source
-sources_of p = groups_from p 0 4
+sources_of p = groups_from p.groups
 
 -- the bits of a plan (part2_length)
 unfoldable pub plan_bits : List Source → ℕ

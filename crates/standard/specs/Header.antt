@@ -1,7 +1,7 @@
 -- A frame's header, from its first bytes (11172-3, 2.4.1.3 and 2.4.2.3; 13818-3, 2.4.2.3), which headers bytes read to, and the sizes
 -- that follow from one.
-use Rattle.std.specs.Prelude.{Bool, true, false, not, ◌&&◌, List, [], ◌∷◌, ℕ, ◌+◌, ◌-◌, ◌*◌, ◌/◌, ◌%◌, ltb, leb, eqb, length, get_or}
-use Rattle.standard.specs.Told.{Told, refused, told, pick}
+use Rattle.std.specs.Prelude.{Bool, true, false, not, ◌&&◌, List, [], ◌∷◌, ℕ, ◌+◌, ◌-◌, ◌*◌, ◌/◌, ◌%◌, ltb, leb, eqb, length, get_or, Result, Ok, Err}
+use Rattle.standard.specs.Told.{pick}
 use Rattle.standard.specs.Bits.{one}
 use Rattle.standard.specs.Rows.{member}
 use Rattle.standard.specs.declared.MpegVersion.{MpegVersion}
@@ -16,6 +16,7 @@ use Rattle.standard.specs.declared.SampleRate.{SampleRate}
 use Rattle.standard.specs.declared.SampleRate.TheVariants.{Hz8000, Hz11025, Hz12000, Hz16000, Hz22050, Hz24000, Hz32000, Hz44100, Hz48000}
 use Rattle.standard.specs.declared.FrameHeader.{FrameHeader}
 use Rattle.standard.specs.declared.Refusal.TheVariants.{AbsentBytes, NoSync, ReservedVersion, ReservedLayer, OtherLayer, FreeBitrate, ForbiddenBitrate, ReservedRate, ReservedEmphasis}
+use Rattle.standard.specs.declared.Refusal.{Refusal}
 
 -- ---- the tables of the header's fields
 -- bits for a second
@@ -145,28 +146,28 @@ fields b1 b2 b3 =
 -- ---- reading a header, byte by byte: the first fault decides. Its bytes are needed from the first on, so the first absent one stands where
 -- those that are there end
 -- the third and fourth byte, needed together
-unfoldable pub last_bytes : List ℕ → Told FrameHeader
+unfoldable pub last_bytes : List ℕ → Result FrameHeader Refusal
 last_bytes s =
-    pick (eqb (bitrate_index (get_or s 2 0)) 0) (refused FreeBitrate)
-    (pick (eqb (bitrate_index (get_or s 2 0)) 15) (refused ForbiddenBitrate)
-    (pick (eqb (sampling_frequency (get_or s 2 0)) 3) (refused ReservedRate)
-    (pick (eqb (emphasis_bits (get_or s 3 0)) 2) (refused ReservedEmphasis)
-    (pick (eqb (protection_bit (get_or s 1 0)) 0 && leb (length s) 5) (refused (AbsentBytes (length s)))
-    (told (fields (get_or s 1 0) (get_or s 2 0) (get_or s 3 0)))))))
+    pick (eqb (bitrate_index (get_or s 2 0)) 0) (Err FreeBitrate)
+    (pick (eqb (bitrate_index (get_or s 2 0)) 15) (Err ForbiddenBitrate)
+    (pick (eqb (sampling_frequency (get_or s 2 0)) 3) (Err ReservedRate)
+    (pick (eqb (emphasis_bits (get_or s 3 0)) 2) (Err ReservedEmphasis)
+    (pick (eqb (protection_bit (get_or s 1 0)) 0 && leb (length s) 5) (Err (AbsentBytes (length s)))
+    (Ok (fields (get_or s 1 0) (get_or s 2 0) (get_or s 3 0)))))))
 
-unfoldable pub second_byte : List ℕ → Told FrameHeader
+unfoldable pub second_byte : List ℕ → Result FrameHeader Refusal
 second_byte s =
-    pick (ltb (get_or s 1 0) sync_least) (refused NoSync)
-    (pick (eqb (ID (get_or s 1 0)) 1) (refused ReservedVersion)
-    (pick (eqb (layer (get_or s 1 0)) 0) (refused ReservedLayer)
-    (pick (not (eqb (layer (get_or s 1 0)) 1)) (refused OtherLayer)
-    (pick (leb (length s) 3) (refused (AbsentBytes (length s))) (last_bytes s)))))
+    pick (ltb (get_or s 1 0) sync_least) (Err NoSync)
+    (pick (eqb (ID (get_or s 1 0)) 1) (Err ReservedVersion)
+    (pick (eqb (layer (get_or s 1 0)) 0) (Err ReservedLayer)
+    (pick (not (eqb (layer (get_or s 1 0)) 1)) (Err OtherLayer)
+    (pick (leb (length s) 3) (Err (AbsentBytes (length s))) (last_bytes s)))))
 
-unfoldable pub header_of : List ℕ → Told FrameHeader
+unfoldable pub header_of : List ℕ → Result FrameHeader Refusal
 header_of s =
-    pick (leb (length s) 0) (refused (AbsentBytes (length s)))
-    (pick (not (eqb (get_or s 0 0) sync_byte)) (refused NoSync)
-    (pick (leb (length s) 1) (refused (AbsentBytes (length s))) (second_byte s)))
+    pick (leb (length s) 0) (Err (AbsentBytes (length s)))
+    (pick (not (eqb (get_or s 0 0) sync_byte)) (Err NoSync)
+    (pick (leb (length s) 1) (Err (AbsentBytes (length s))) (second_byte s)))
 
 -- ---- which headers bytes read to: those whose bitrate and rate are their version's
 unfoldable pub same_bitrate : BitRate → BitRate → Bool

@@ -1,13 +1,14 @@
 -- Which bytes of a frame are needed (docs/RULES.md): those from the first on, up to the byte that shows the first fault, or else all of the frame.
 -- The definition of an answer reads them in turn; here they are counted, so that what refusal 2 tells can be stated apart from it.
-use Rattle.std.specs.Prelude.{Bool, not, ◌||◌, List, ℕ, ◌+◌, ◌*◌, ◌≤◌, ◌<◌, ltb, eqb, length, get_or}
-use Rattle.standard.specs.Told.{Told, refused, told, pick}
+use Rattle.std.specs.Prelude.{Bool, not, ◌||◌, List, ℕ, ◌+◌, ◌*◌, ◌≤◌, ◌<◌, ltb, eqb, length, get_or, Result, Ok, Err}
+use Rattle.standard.specs.Told.{pick}
 use Rattle.standard.specs.Bits.{one}
 use Rattle.standard.specs.Header.{sync_byte, sync_least, ID, layer, protection_bit, bitrate_index, sampling_frequency, emphasis_bits}
 use Rattle.standard.specs.Header.{header_of, header_size, side_size, frame_length}
 use Rattle.standard.specs.SideInfo.{side_of}
 use Rattle.standard.specs.declared.FrameHeader.{FrameHeader}
 use Rattle.standard.specs.declared.SideInfo.{SideInfo}
+use Rattle.standard.specs.declared.Refusal.{Refusal}
 
 -- ---- a header's, whose bytes may show a fault one by one: the first; the second; the third and fourth together; then the CRC's, if there is one
 -- a second byte that begins no header of Layer III: 3, 4, 5, 6
@@ -27,13 +28,13 @@ header_needs s =
     (4 + 2 * one (eqb (protection_bit (get_or s 1 0)) 0))))
 
 -- ---- a frame's: header and side information, and where these have no fault, the main data
-unfoldable pub side_needs : FrameHeader → Told SideInfo → ℕ
-side_needs h (refused r) = header_size h + side_size h
-side_needs h (told i) = frame_length h
+unfoldable pub side_needs : FrameHeader → Result SideInfo Refusal → ℕ
+side_needs h (Err r) = header_size h + side_size h
+side_needs h (Ok i) = frame_length h
 
-unfoldable pub needs_by : List ℕ → Told FrameHeader → ℕ
-needs_by s (refused r) = header_needs s
-needs_by s (told h) = side_needs h (side_of h s)
+unfoldable pub needs_by : List ℕ → Result FrameHeader Refusal → ℕ
+needs_by s (Err r) = header_needs s
+needs_by s (Ok h) = side_needs h (side_of h s)
 
 unfoldable pub frame_needs : List ℕ → ℕ
 frame_needs s = needs_by s (header_of s)

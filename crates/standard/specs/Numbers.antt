@@ -1,11 +1,11 @@
 -- A slot's numbers (11172-3, 2.4.1.7 and 2.4.2.7: big_values, count1, linbits, signs; 2.4.3.4), from exactly the bits after its factors.
 -- Readers tell how many bits they used; what is left is the rest after so many. `word` reads a codeword of a table: in the definition it is
 -- `word_of`, the published code.
-use Rattle.std.specs.Prelude.{Bool, true, false, ◌||◌, List, [], ◌∷◌, ◌++◌, ℕ, zero, suc, ◌+◌, ◌-◌, ◌*◌, ◌/◌, ◌%◌, ltb, leb, eqb, ℤ, pos, neg_ℤ, length, get_or, take, drop, replicate}
+use Rattle.std.specs.Prelude.{Bool, true, false, ◌||◌, List, [], ◌∷◌, ◌++◌, ℕ, zero, suc, ◌+◌, ◌-◌, ◌*◌, ◌/◌, ◌%◌, ltb, leb, eqb, ℤ, pos, neg_ℤ, Option, Some, None, Result, Ok, Err, length, get_or, take, drop, replicate}
 use Rattle.standard.specs.Sizes.{per_slot}
 use Rattle.standard.specs.Told.{pick}
 use Rattle.standard.specs.Bits.{value}
-use Rattle.standard.specs.Codes.{has_codewords, escape_width}
+use Rattle.standard.specs.Codes.{Codeword, taken, has_codewords, escape_width}
 use Rattle.standard.specs.Bands.{long_start}
 use Rattle.standard.specs.Record.{shape_of}
 use Rattle.standard.specs.declared.SampleRate.{SampleRate}
@@ -14,30 +14,39 @@ use Rattle.standard.specs.declared.Shape.{Shape}
 use Rattle.standard.specs.declared.Shape.TheVariants.{AllLong, AllShort, LongThenShort}
 use Rattle.standard.specs.declared.Refusal.{Refusal}
 use Rattle.standard.specs.declared.Refusal.TheVariants.{PairOverrun, NoCodeword}
-use Rattle.standard.specs.declared.Codeword.{Codeword}
-use Rattle.standard.specs.declared.Codeword.TheVariants.{Coded, Cut, Alien}
+use Rattle.standard.specs.declared.Taken.{Taken}
+use Rattle.standard.specs.declared.Unread.{Unread}
+use Rattle.standard.specs.declared.Unread.TheVariants.{Cut, Alien}
 use Rattle.standard.specs.declared.Regions.{Regions}
-use Rattle.standard.specs.declared.Magnitude.{Magnitude}
-use Rattle.standard.specs.declared.Magnitude.TheVariants.{Sized, Unsized}
-use Rattle.standard.specs.declared.Number.{Number}
-use Rattle.standard.specs.declared.Number.TheVariants.{Whole, Broken}
-use Rattle.standard.specs.declared.Pair.{Pair}
-use Rattle.standard.specs.declared.Pair.TheVariants.{Two, NoPair}
-use Rattle.standard.specs.declared.Quad.{Quad}
-use Rattle.standard.specs.declared.Quad.TheVariants.{Four, Dropped, NoQuad}
 
 abbrev pub Reader : Type 0
 Reader = ℕ → List Bool → Codeword
+
+-- how large a number is, with the escape bits that say so; or the bits end within them
+abbrev pub Magnitude : Type 0
+Magnitude = Option (Taken ℕ)
+
+-- a number with its escape and sign bits; or the bits end within them
+abbrev pub Number : Type 0
+Number = Option (Taken ℤ)
+
+-- a pair with all of its bits, or why the slot is refused there
+abbrev pub Pair : Type 0
+Pair = Result (Taken (ℤ × ℤ)) Refusal
+
+-- a quad with all of its bits; or one that they cut; or bits that start no quad
+abbrev pub Quad : Type 0
+Quad = Result (Taken (List ℤ)) Unread
 
 -- ---- 2.4.1.7, Huffmancodebits, has for each pair: hcod; linbitsx where |x| is 15 and the table escapes; signx where x is not 0; linbitsy;
 -- signy. For each quad: hcod, then signv, signw, signx, signy, each where its number is not 0. The steps below take them one by one
 -- ---- one number
 -- where the value is 15, the escape's bits are added (linbits; of a table without escapes there are none)
 unfoldable pub escaped : ℕ → List Bool → Magnitude
-escaped w b = pick (leb w (length b)) (Sized (15 + value (take w b)) w) Unsized
+escaped w b = pick (leb w (length b)) (Some (taken (15 + value (take w b)) w)) None
 
 unfoldable pub magnitude_of : ℕ → ℕ → List Bool → Magnitude
-magnitude_of w v b = pick (eqb v 15) (escaped w b) (Sized v 0)
+magnitude_of w v b = pick (eqb v 15) (escaped w b) (Some (taken v 0))
 
 unfoldable pub sign_of : Bool → ℕ → ℤ
 sign_of true v = neg_ℤ (pos v)
@@ -45,17 +54,17 @@ sign_of false v = pos v
 
 -- a sign bit follows, unless the number is 0
 unfoldable pub signed : ℕ → List Bool → Number
-signed zero b = Whole (pos 0) 0
-signed (suc v) [] = Broken
-signed (suc v) (x ∷ b) = Whole (sign_of x (suc v)) 1
+signed zero b = Some (taken (pos 0) 0)
+signed (suc v) [] = None
+signed (suc v) (x ∷ b) = Some (taken (sign_of x (suc v)) 1)
 
 unfoldable pub further : ℕ → Number → Number
-further u Broken = Broken
-further u (Whole z k) = Whole z (u + k)
+further u None = None
+further u (Some z) = Some (taken z.value (u + z.used))
 
 unfoldable pub then_sign : List Bool → Magnitude → Number
-then_sign b Unsized = Broken
-then_sign b (Sized v u) = further u (signed v (drop u b))
+then_sign b None = None
+then_sign b (Some m) = further m.used (signed m.value (drop m.used b))
 
 -- the value v with its escape of w bits and its sign
 unfoldable pub number_in : ℕ → ℕ → List Bool → Number
@@ -63,42 +72,41 @@ number_in w v b = then_sign b (magnitude_of w v b)
 
 -- ---- two numbers, the first with its escape and sign before the second's
 unfoldable pub two_last : ℤ → ℕ → Number → Pair
-two_last x n Broken = NoPair PairOverrun
-two_last x n (Whole y k) = Two x y (n + k)
+two_last x n None = Err PairOverrun
+two_last x n (Some y) = Ok (taken (x, y.value) (n + y.used))
 
 unfoldable pub two_first : ℕ → ℕ → List Bool → Number → Pair
-two_first w y b Broken = NoPair PairOverrun
-two_first w y b (Whole x k) = two_last x k (number_in w y (drop k b))
+two_first w y b None = Err PairOverrun
+two_first w y b (Some x) = two_last x.value x.used (number_in w y (drop x.used b))
 
 unfoldable pub two_of : ℕ → ℕ → ℕ → List Bool → Pair
 two_of w x y b = two_first w y b (number_in w x b)
 
 -- ---- a pair of a table: the codeword, then its two numbers
 unfoldable pub pair_after : ℕ → Pair → Pair
-pair_after n (NoPair r) = NoPair r
-pair_after n (Two x y k) = Two x y (n + k)
+pair_after n (Err r) = Err r
+pair_after n (Ok p) = Ok (taken p.value (n + p.used))
 
 unfoldable pub pair_word : ℕ → List Bool → Codeword → Pair
-pair_word w b Cut = NoPair PairOverrun
-pair_word w b Alien = NoPair NoCodeword
-pair_word w b (Coded v n) = pair_after n (two_of w (v / 16) (v % 16) (drop n b))
+pair_word w b (Err Cut) = Err PairOverrun
+pair_word w b (Err Alien) = Err NoCodeword
+pair_word w b (Ok c) = pair_after c.used (two_of w (c.value / 16) (c.value % 16) (drop c.used b))
 
 unfoldable pub pair_of : Reader → ℕ → List Bool → Pair
 pair_of word t b = pair_word (escape_width t) b (word t b)
 
 -- ---- a quad of a table: the codeword, then a sign for each 1
 unfoldable pub quad_last : ℤ → ℤ → ℕ → Pair → Quad
-quad_last v w n (NoPair r) = Dropped
-quad_last v w n (Two x y k) = Four v w x y (n + k)
+quad_last v w n (Err r) = Err Cut
+quad_last v w n (Ok p) = Ok (taken (v ∷ w ∷ p.value.0 ∷ p.value.1 ∷ []) (n + p.used))
 
 unfoldable pub quad_first : ℕ → ℕ → List Bool → Pair → Quad
-quad_first c n b (NoPair r) = Dropped
-quad_first c n b (Two v w k) = quad_last v w (n + k) (two_of 0 (c / 2 % 2) (c % 2) (drop k b))
+quad_first c n b (Err r) = Err Cut
+quad_first c n b (Ok p) = quad_last p.value.0 p.value.1 (n + p.used) (two_of 0 (c / 2 % 2) (c % 2) (drop p.used b))
 
 unfoldable pub quad_word : List Bool → Codeword → Quad
-quad_word b Cut = Dropped
-quad_word b Alien = NoQuad
-quad_word b (Coded c n) = quad_first c n (drop n b) (two_of 0 (c / 8 % 2) (c / 4 % 2) (drop n b))
+quad_word b (Err why) = Err why
+quad_word b (Ok c) = quad_first c.value c.used (drop c.used b) (two_of 0 (c.value / 8 % 2) (c.value / 4 % 2) (drop c.used b))
 
 unfoldable pub quad_of : Reader → ℕ → List Bool → Quad
 quad_of word t b = quad_word b (word t b)
@@ -146,8 +154,8 @@ prepend vs (halted r) = halted r
 prepend vs (got ws b) = got (vs ++ ws) b
 
 unfoldable pub then_pairs : Pair → (ℕ → Numbers) → Numbers
-then_pairs (NoPair r) rest = halted r
-then_pairs (Two x y u) rest = prepend (x ∷ y ∷ []) (rest u)
+then_pairs (Err r) rest = halted r
+then_pairs (Ok p) rest = prepend (p.value.0 ∷ p.value.1 ∷ []) (rest p.used)
 
 -- n pairs from the k-th on, `table` giving the table at a position
 unfoldable pub pairs : Reader → (ℕ → ℕ) → ℕ → ℕ → List Bool → Numbers
@@ -156,9 +164,9 @@ pairs word table k (suc n) b = then_pairs (pair_of word (table (2 * k)) b) (λ (
 
 -- a quad that does not end within the bits is dropped, and nothing is read after it
 unfoldable pub then_quads : Quad → (ℕ → Numbers) → Numbers
-then_quads NoQuad rest = halted NoCodeword
-then_quads Dropped rest = got [] []
-then_quads (Four v w x y u) rest = prepend (v ∷ w ∷ x ∷ y ∷ []) (rest u)
+then_quads (Err Alien) rest = halted NoCodeword
+then_quads (Err Cut) rest = got [] []
+then_quads (Ok q) rest = prepend q.value (rest q.used)
 
 -- at most n quads, as long as bits are left
 unfoldable pub quads : Reader → ℕ → ℕ → List Bool → Numbers

@@ -1,11 +1,11 @@
 -- A slot's record (11172-3, 2.4.1.7 and 2.4.2.7; 13818-3, 2.4.1.7), from its own bits, and which records bits read to.
 -- `mpeg1` says whether the version is MPEG-1, `slow` whether the rate is 8 kHz.
-use Rattle.std.specs.Prelude.{Bool, true, false, not, ◌&&◌, List, [], ◌∷◌, ℕ, ◌+◌, ◌*◌, ◌^◌, ltb, leb, eqb, pos, Float, get_or}
+use Rattle.std.specs.Prelude.{Bool, true, false, not, ◌&&◌, List, [], ◌∷◌, ℕ, ◌+◌, ◌*◌, ◌^◌, ltb, leb, eqb, pos, Float, get_or, Result, Ok, Err}
 use Rattle.std.specs.Bool.{beq}
 use Rattle.std.specs.Float.{binary32}
 use Rattle.std.specs.Float.Ieee.{of_int}
 use Rattle.standard.specs.Sizes.{most_big_values}
-use Rattle.standard.specs.Told.{Told, told, pick, refused}
+use Rattle.standard.specs.Told.{pick}
 use Rattle.standard.specs.Rows.{place}
 use Rattle.standard.specs.Same.{same_float}
 use Rattle.standard.specs.Bits.{field, flag}
@@ -15,6 +15,7 @@ use Rattle.standard.specs.declared.SlotRecord.{SlotRecord}
 use Rattle.standard.specs.declared.Shape.{Shape}
 use Rattle.standard.specs.declared.Shape.TheVariants.{AllLong, AllShort, LongThenShort}
 use Rattle.standard.specs.declared.Refusal.TheVariants.{TooManyPairs, ForbiddenBlock, MixedBlock}
+use Rattle.standard.specs.declared.Refusal.{Refusal}
 
 -- ---- what the parts of a record are
 -- a gain of 3 bits is kept as the single-precision float of its number
@@ -161,15 +162,15 @@ switched_of mpeg1 c t mixed b =
 
 -- big_values above 288; in a switched window block type 0, and then a mixed short block where the rate is 8 kHz: there short band 3 does not start
 -- where the long bands of a mixed block end
-unfoldable pub record_in : Bool → Bool → ℕ → List Bool → Told SlotRecord
+unfoldable pub record_in : Bool → Bool → ℕ → List Bool → Result SlotRecord Refusal
 record_in mpeg1 slow c b =
-    pick (ltb most_big_values (field b big_values_at 9)) (refused TooManyPairs)
-    (pick (not (flag b (switching_at + c))) (told (long_of mpeg1 c b))
-    (pick (eqb (field b (type_at + c) 2) 0) (refused ForbiddenBlock)
-    (pick (slow && is_mixed (shape_by (block_of (field b (type_at + c) 2)) (flag b (mixed_at + c)))) (refused MixedBlock)
-    (told (switched_of mpeg1 c (block_of (field b (type_at + c) 2)) (flag b (mixed_at + c)) b)))))
+    pick (ltb most_big_values (field b big_values_at 9)) (Err TooManyPairs)
+    (pick (not (flag b (switching_at + c))) (Ok (long_of mpeg1 c b))
+    (pick (eqb (field b (type_at + c) 2) 0) (Err ForbiddenBlock)
+    (pick (slow && is_mixed (shape_by (block_of (field b (type_at + c) 2)) (flag b (mixed_at + c)))) (Err MixedBlock)
+    (Ok (switched_of mpeg1 c (block_of (field b (type_at + c) 2)) (flag b (mixed_at + c)) b)))))
 
-unfoldable pub record_of : Bool → Bool → List Bool → Told SlotRecord
+unfoldable pub record_of : Bool → Bool → List Bool → Result SlotRecord Refusal
 record_of mpeg1 slow b = record_in mpeg1 slow (compress_width mpeg1) b
 
 -- the record of a slot that the frame lacks

@@ -1,12 +1,10 @@
 -- The refusals' numbers (docs/REFUSALS.md), which only text and exported calls give, and how a verdict and a value answer a reading.
-use Rattle.std.specs.Prelude.{ℕ, ◌≡◌}
-use Rattle.standard.specs.Told.{Told, refused, told, told_or, verdict_of}
-use Rattle.standard.specs.declared.FrameHeader.{FrameHeader}
+use Rattle.std.specs.Prelude.{ℕ, ◌≡◌, Result, Ok, Err}
+use Rattle.standard.specs.Told.{told_or, verdict_of, Verdict}
 use Rattle.standard.specs.declared.Refusal.{Refusal}
+use Rattle.standard.specs.declared.FrameRefusal.{FrameRefusal}
+use Rattle.standard.specs.declared.FrameRefusal.TheVariants.{Unread, OutOfReach}
 use Rattle.standard.specs.declared.Refusal.TheVariants.{UnfitMemory, MadeUpRecord, AbsentBytes, NoSync, ReservedVersion, ReservedLayer, OtherLayer, FreeBitrate, ForbiddenBitrate, ReservedRate, ReservedEmphasis, WrongCrc, TooManyPairs, ForbiddenBlock, MixedBlock, ShortReservoir, MissingBits, FactorOverrun, LostShare, PairOverrun, NoCodeword}
-use Rattle.standard.specs.declared.Verdict.{Verdict}
-use Rattle.standard.specs.declared.HeaderAnswer.{HeaderAnswer}
-use Rattle.standard.specs.declared.HeaderAnswer.TheVariants.{Header, NoHeader}
 
 -- docs/REFUSALS.md; 23 was a refusal of regions, and is not used again
 abbrev pub number_of : Refusal → ℕ
@@ -57,11 +55,12 @@ offset_of PairOverrun = 0
 offset_of NoCodeword = 0
 
 -- ---- what the answers say
-abbrev pub told_header : HeaderAnswer → Told FrameHeader
-told_header (Header h) = told h
-told_header (NoHeader r) = refused r
-
--- a verdict and a value beside it answer a reading: the value is what was read, and blank where it was refused
-pub record Answers {A : Type 0} (blank : A) (v : Verdict) (a : A) (t : Told A) : Type 0 where
+-- a verdict and a lent value answer a reading: the value is what was read, and as it was where it was refused
+pub record Answers {A : Type 0} (old : A) (v : Verdict) (a : A) (t : Result A Refusal) : Type 0 where
   pub verdict : v ≡ verdict_of t
-  pub value : a ≡ told_or blank t
+  pub value : a ≡ told_or old t
+
+-- ---- why a frame has no slots
+abbrev pub why_of : FrameRefusal → Refusal
+why_of (Unread r) = r
+why_of (OutOfReach h) = ShortReservoir

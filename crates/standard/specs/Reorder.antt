@@ -1,7 +1,7 @@
 -- The reorder of short blocks (11172-3, 2.4.3.4): window by window in each band before it, frequency by frequency after it.
-use Rattle.std.specs.Prelude.{◌&&◌, List, [], ◌∷◌, ◌++◌, ℕ, zero, suc, ◌+◌, ◌-◌, ◌*◌, ltb, ℤ, pos, length, get_or, take, drop}
+use Rattle.std.specs.Prelude.{◌&&◌, List, [], ◌∷◌, ◌++◌, ℕ, zero, suc, ◌+◌, ◌-◌, ◌*◌, ltb, ℤ, pos, length, get_or, take, drop, Result, Ok, Err}
 use Rattle.standard.specs.Sizes.{per_slot}
-use Rattle.standard.specs.Told.{Told, told, pick, refused}
+use Rattle.standard.specs.Told.{pick}
 use Rattle.standard.specs.Bands.{row_of, short_rows, short_start}
 use Rattle.standard.specs.Header.{is_header}
 use Rattle.standard.specs.Record.{shape_of}
@@ -12,6 +12,7 @@ use Rattle.standard.specs.declared.SlotRecord.{SlotRecord}
 use Rattle.standard.specs.declared.Shape.{Shape}
 use Rattle.standard.specs.declared.Shape.TheVariants.{AllLong, AllShort, LongThenShort}
 use Rattle.standard.specs.declared.Refusal.TheVariants.{UnfitMemory, MadeUpRecord}
+use Rattle.standard.specs.declared.Refusal.{Refusal}
 
 -- which number comes to each place of a band of width w from a place on: at 3 j + window the one that stood at window w + j.
 -- n frequencies from the j-th on
@@ -46,7 +47,7 @@ first_short LongThenShort = 3
 unfoldable pub reordered_from : SampleRate → ℕ → List ℤ → List ℤ
 reordered_from rate k d = take (3 * short_start rate k) d ++ gathered (order_of rate k) (take per_slot d) ++ drop per_slot d
 
-unfoldable pub reorder_of : FrameHeader → SlotRecord → List ℤ → Told (List ℤ)
+unfoldable pub reorder_of : FrameHeader → SlotRecord → List ℤ → Result (List ℤ) Refusal
 reorder_of h r d =
-    pick (ltb (length d) per_slot) (refused UnfitMemory)
-    (pick (is_header h && is_record_under h r) (told (reordered_from h.rate (first_short (shape_of r)) d)) (refused MadeUpRecord))
+    pick (ltb (length d) per_slot) (Err UnfitMemory)
+    (pick (is_header h && is_record_under h r) (Ok (reordered_from h.rate (first_short (shape_of r)) d)) (Err MadeUpRecord))

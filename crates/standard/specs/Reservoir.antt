@@ -1,12 +1,10 @@
 -- The bit reservoir (11172-3, 2.4.2.7, main_data_begin): what a frame's slots are read from, and what is kept for the next frame.
-use Rattle.std.specs.Prelude.{◌≡◌, Bool, ◌||◌, List, ◌++◌, ℕ, ◌+◌, ◌-◌, ltb, length, take, drop}
+use Rattle.std.specs.Prelude.{◌≡◌, Bool, ◌||◌, List, ◌++◌, ℕ, ◌+◌, ◌-◌, ltb, length, take, drop, Result, Ok, Err}
 use Rattle.standard.specs.Sizes.{reservoir_bytes}
-use Rattle.standard.specs.Told.{Told, refused, told, pick}
+use Rattle.standard.specs.Told.{pick, Verdict}
 use Rattle.standard.specs.declared.Reservoir.{Reservoir}
-use Rattle.standard.specs.declared.ReservoirAnswer.{ReservoirAnswer}
 use Rattle.standard.specs.declared.Refusal.TheVariants.{UnfitMemory, ShortReservoir}
-use Rattle.standard.specs.declared.Verdict.{Verdict}
-use Rattle.standard.specs.declared.Verdict.TheVariants.{Accepted, Refused}
+use Rattle.standard.specs.declared.Refusal.{Refusal}
 
 -- the last main_data_begin bytes of the reservoir, then the frame's main data
 unfoldable pub reaching : ℕ → List ℕ → List ℕ → List ℕ
@@ -45,24 +43,24 @@ unfit lent stated = ltb (length lent) reservoir_bytes || ltb reservoir_bytes sta
 
 -- the call, for any main data and any main_data_begin: where the two together are more than the memory holds, it is refused. A frame's are at most
 -- 1,931 bytes
-unfoldable pub turn_in : List ℕ → ℕ → ℕ → List ℕ → Told Turn
+unfoldable pub turn_in : List ℕ → ℕ → ℕ → List ℕ → Result Turn Refusal
 turn_in lent stated begin main =
-    pick (unfit lent stated || ltb reservoir_bytes (begin + length main)) (refused UnfitMemory) (told (turn_of begin (take stated lent) main))
+    pick (unfit lent stated || ltb reservoir_bytes (begin + length main)) (Err UnfitMemory) (Ok (turn_of begin (take stated lent) main))
 
-unfoldable pub turn_verdict : Told Turn → Verdict
-turn_verdict (refused r) = Refused r
-turn_verdict (told (short bs)) = Refused ShortReservoir
-turn_verdict (told (reached bs)) = Accepted
+unfoldable pub turn_verdict : Result Turn Refusal → Verdict
+turn_verdict (Err r) = Err r
+turn_verdict (Ok (short bs)) = Err ShortReservoir
+turn_verdict (Ok (reached bs)) = Ok tt
 
-unfoldable pub turn_kept : Told Turn → Kept
-turn_kept (refused k) = untouched
-turn_kept (told (short bs)) = keeping bs
-turn_kept (told (reached bs)) = keeping bs
+unfoldable pub turn_kept : Result Turn Refusal → Kept
+turn_kept (Err k) = untouched
+turn_kept (Ok (short bs)) = keeping bs
+turn_kept (Ok (reached bs)) = keeping bs
 
--- what a turn answers, and the lent bytes after it
-pub record Turned (lent : List ℕ) (old : Reservoir) (t : Told Turn) (r : ReservoirAnswer) (left : List ℕ) : Type 0 where
-  pub verdict : r.verdict ≡ turn_verdict t
-  pub reservoir : r.reservoir ≡ reservoir_after old (turn_kept t)
+-- what a turn answers, and the reservoir and the lent bytes after it
+pub record Turned (lent : List ℕ) (old : Reservoir) (t : Result Turn Refusal) (r : Verdict) (new : Reservoir) (left : List ℕ) : Type 0 where
+  pub verdict : r ≡ turn_verdict t
+  pub reservoir : new ≡ reservoir_after old (turn_kept t)
   pub bytes : left ≡ bytes_after lent (turn_kept t)
 
 -- the emptying call, for a gap on the card

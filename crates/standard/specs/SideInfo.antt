@@ -1,7 +1,7 @@
 -- A frame's side information (11172-3, 2.4.1.7; 13818-3, 2.4.1.7), from the frame's bytes, and which side information bytes read to
 -- under a header. `mpeg1` says whether the version is MPEG-1, `two` whether there are two channels, `slow` whether the rate is 8 kHz.
-use Rattle.std.specs.Prelude.{Bool, true, false, not, ◌&&◌, List, [], ◌∷◌, ◌++◌, ℕ, zero, suc, ◌+◌, ◌-◌, ◌*◌, ◌^◌, ltb, eqb, length, take, drop, replicate}
-use Rattle.standard.specs.Told.{Told, refused, told, pick}
+use Rattle.std.specs.Prelude.{Bool, true, false, not, ◌&&◌, List, [], ◌∷◌, ◌++◌, ℕ, zero, suc, ◌+◌, ◌-◌, ◌*◌, ◌^◌, ltb, eqb, length, take, drop, replicate, Result, Ok, Err}
+use Rattle.standard.specs.Told.{pick}
 use Rattle.standard.specs.Bits.{bits, field}
 use Rattle.standard.specs.Crc.{crc_fits}
 use Rattle.standard.specs.Header.{is_mpeg1, is_two, is_slow, is_header, header_size, side_bytes, granules_in, channels_in}
@@ -10,6 +10,7 @@ use Rattle.standard.specs.declared.FrameHeader.{FrameHeader}
 use Rattle.standard.specs.declared.SlotRecord.{SlotRecord}
 use Rattle.standard.specs.declared.SideInfo.{SideInfo}
 use Rattle.standard.specs.declared.Refusal.TheVariants.{MadeUpRecord, AbsentBytes, WrongCrc}
+use Rattle.standard.specs.declared.Refusal.{Refusal}
 
 -- ---- the layout
 -- main_data_begin
@@ -38,20 +39,20 @@ abbrev pub slot_count : Bool → Bool → ℕ
 slot_count mpeg1 two = granules_in mpeg1 * channels_in two
 
 -- ---- the slots' records in turn: the first that is refused decides
-unfoldable pub then_records : Told SlotRecord → Told (List SlotRecord) → Told (List SlotRecord)
-then_records (refused k) y = refused k
-then_records (told r) (refused k) = refused k
-then_records (told r) (told rs) = told (r ∷ rs)
+unfoldable pub then_records : Result SlotRecord Refusal → Result (List SlotRecord) Refusal → Result (List SlotRecord) Refusal
+then_records (Err k) y = Err k
+then_records (Ok r) (Err k) = Err k
+then_records (Ok r) (Ok rs) = Ok (r ∷ rs)
 
-unfoldable pub records_of : Bool → Bool → ℕ → List Bool → Told (List SlotRecord)
-records_of mpeg1 slow zero b = told []
+unfoldable pub records_of : Bool → Bool → ℕ → List Bool → Result (List SlotRecord) Refusal
+records_of mpeg1 slow zero b = Ok []
 records_of mpeg1 slow (suc n) b =
     then_records (record_of mpeg1 slow (take (record_width mpeg1) b)) (records_of mpeg1 slow n (drop (record_width mpeg1) b))
 
-unfoldable pub then_side : Bool → Bool → List Bool → Told (List SlotRecord) → Told SideInfo
-then_side mpeg1 two b (refused k) = refused k
-then_side mpeg1 two b (told rs) =
-    told
+unfoldable pub then_side : Bool → Bool → List Bool → Result (List SlotRecord) Refusal → Result SideInfo Refusal
+then_side mpeg1 two b (Err k) = Err k
+then_side mpeg1 two b (Ok rs) =
+    Ok
     (record {
       main_data_begin = field b 0 (begin_width mpeg1);
       scfsi = take (share_count mpeg1 two) (drop (shares_at mpeg1 two) b) ++ replicate (8 - share_count mpeg1 two) false;
@@ -59,7 +60,7 @@ then_side mpeg1 two b (told rs) =
     })
 
 -- from exactly the bits of the side information
-unfoldable pub side_in : Bool → Bool → Bool → List Bool → Told SideInfo
+unfoldable pub side_in : Bool → Bool → Bool → List Bool → Result SideInfo Refusal
 side_in mpeg1 two slow b =
     then_side mpeg1 two b (records_of mpeg1 slow (slot_count mpeg1 two) (drop (shares_at mpeg1 two + share_count mpeg1 two) b))
 
@@ -73,19 +74,19 @@ needed_from true from = 2
 needed_from false from = from
 
 -- from the frame's bytes, of which the header takes the first `from`; `crc` says whether it has a CRC
-unfoldable pub side_from : Bool → Bool → Bool → Bool → ℕ → List ℕ → Told SideInfo
+unfoldable pub side_from : Bool → Bool → Bool → Bool → ℕ → List ℕ → Result SideInfo Refusal
 side_from crc mpeg1 two slow from s =
-    pick (ltb (length s) (from + side_bytes mpeg1 two)) (refused (AbsentBytes (absent_from (needed_from crc from) (length s))))
-    (pick (crc && not (crc_fits s (from + side_bytes mpeg1 two))) (refused WrongCrc)
+    pick (ltb (length s) (from + side_bytes mpeg1 two)) (Err (AbsentBytes (absent_from (needed_from crc from) (length s))))
+    (pick (crc && not (crc_fits s (from + side_bytes mpeg1 two))) (Err WrongCrc)
     (side_in mpeg1 two slow (bits s (8 * from) (8 * side_bytes mpeg1 two))))
 
 -- under a header, whatever it has
-abbrev pub side_under : FrameHeader → List ℕ → Told SideInfo
+abbrev pub side_under : FrameHeader → List ℕ → Result SideInfo Refusal
 side_under h s = side_from h.crc (is_mpeg1 h.version) (is_two h.channels) (is_slow h.rate) (header_size h) s
 
 -- and under one that bytes read to
-unfoldable pub side_of : FrameHeader → List ℕ → Told SideInfo
-side_of h s = pick (is_header h) (side_under h s) (refused MadeUpRecord)
+unfoldable pub side_of : FrameHeader → List ℕ → Result SideInfo Refusal
+side_of h s = pick (is_header h) (side_under h s) (Err MadeUpRecord)
 
 -- what a refusal's answer has in the place of side information
 unfoldable pub no_side : SideInfo

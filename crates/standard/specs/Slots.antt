@@ -1,9 +1,9 @@
 -- The slots of a frame, cut from its main data one after the other (11172-3, 2.4.1.7 and 2.4.2.7, main_data, part2_3_length). A slot's
 -- outcome is told from exactly its own bits, its record, the header, and, where it shares, the outcome of its channel's granule 0 slot.
-use Rattle.std.specs.Prelude.{◌≡◌, Bool, true, false, not, ◌&&◌, ◌||◌, List, [], ◌∷◌, ◌++◌, map, ℕ, zero, suc, ◌+◌, ◌-◌, ◌*◌, ltb, leb, eqb, ℤ, length, get_or, take, drop, replicate}
+use Rattle.std.specs.Prelude.{◌≡◌, Bool, true, false, not, ◌&&◌, ◌||◌, List, [], ◌∷◌, ◌++◌, map, ℕ, zero, suc, ◌+◌, ◌-◌, ◌*◌, ltb, leb, eqb, ℤ, length, get_or, take, drop, replicate, Option, Some, None, Result, Ok, Err}
 use Rattle.std.proofs.Math.Seq.{paste}
 use Rattle.standard.specs.Sizes.{per_slot, per_frame}
-use Rattle.standard.specs.Told.{Told, told, pick, told_or, verdict_of, refused}
+use Rattle.standard.specs.Told.{pick, told_or, verdict_of}
 use Rattle.standard.specs.Bits.{bits}
 use Rattle.standard.specs.Codes.{word_of}
 use Rattle.standard.specs.Header.{is_mpeg1, is_intensity, is_header, granules, channel_count}
@@ -13,14 +13,13 @@ use Rattle.standard.specs.Factors.{Source, may_share, sources_of, plan_of, plan_
 use Rattle.standard.specs.Numbers.{Numbers, halted, got, numbers_of, padded}
 use Rattle.standard.specs.declared.Setting.{Setting}
 use Rattle.standard.specs.declared.Shape.{Shape}
-use Rattle.standard.specs.declared.SlotsAnswer.{SlotsAnswer}
 use Rattle.standard.specs.declared.FrameHeader.{FrameHeader}
 use Rattle.standard.specs.declared.SlotRecord.{SlotRecord}
 use Rattle.standard.specs.declared.SideInfo.{SideInfo}
 use Rattle.standard.specs.declared.Refusal.{Refusal}
 use Rattle.standard.specs.declared.Refusal.TheVariants.{UnfitMemory, MadeUpRecord, MissingBits, FactorOverrun, LostShare}
 use Rattle.standard.specs.declared.SlotAnswer.{SlotAnswer}
-use Rattle.standard.specs.declared.SlotOutcome.TheVariants.{Read, NotRead, Lacking}
+use Rattle.standard.specs.declared.SlotAnswer.TheVariants.{Read, NotRead, Lacking}
 
 -- a slot's outcome: refused for a reason; or its long and short factors, and its numbers up to the count
 pub data Outcome : Type 0 where
@@ -113,15 +112,18 @@ start_of (suc n) (r ∷ rs) = r.part2_3_length + start_of n rs
 
 -- ---- what is answered
 unfoldable pub slot_told : Outcome → SlotAnswer
-slot_told (stopped r) = record { outcome = NotRead r; long = replicate 22 0; short = replicate 39 0 }
-slot_told (holds long short vs) = record { outcome = Read (length vs); long = long; short = short }
+slot_told (stopped r) = NotRead r
+slot_told (holds long short vs) = Read (length vs) long short
 
-abbrev pub lacking_slot : SlotAnswer
-lacking_slot = record { outcome = Lacking; long = replicate 22 0; short = replicate 39 0 }
+-- what an answer says of a slot besides its factors: its count, or the reason; nothing of one that the frame lacks
+unfoldable pub said_of : SlotAnswer → Option (Result ℕ Refusal)
+said_of (Read n long short) = Some (Ok n)
+said_of (NotRead r) = Some (Err r)
+said_of Lacking = None
 
 -- four answers: the slots', and then lacking ones
 unfoldable pub slots_told : List Outcome → List SlotAnswer
-slots_told os = map slot_told os ++ replicate (4 - length os) lacking_slot
+slots_told os = map slot_told os ++ replicate (4 - length os) Lacking
 
 -- the lent numbers: the n-th slot's are the 576 from 576 n on
 unfoldable pub part_of : ℕ → List ℤ → List ℤ
@@ -142,14 +144,17 @@ unfoldable pub numbers_from : ℕ → List Outcome → List ℤ → List ℤ
 numbers_from at [] d = d
 numbers_from at (o ∷ os) d = numbers_from (at + per_slot) os (numbers_after o at d)
 
+unfoldable pub slots_answer : Result (List Outcome) Refusal → Result (List SlotAnswer) Refusal
+slots_answer (Err r) = Err r
+slots_answer (Ok os) = Ok (slots_told os)
+
 -- what is answered of the slots, and the lent numbers after them
-pub record SlotsRead (d : List ℤ) (t : Told (List Outcome)) (r : SlotsAnswer) (left : List ℤ) : Type 0 where
-  pub verdict : r.verdict ≡ verdict_of t
-  pub slots : r.slots ≡ slots_told (told_or [] t)
+pub record SlotsRead (d : List ℤ) (t : Result (List Outcome) Refusal) (r : Result (List SlotAnswer) Refusal) (left : List ℤ) : Type 0 where
+  pub answer : r ≡ slots_answer t
   pub numbers : left ≡ numbers_from 0 (told_or [] t) d
 
 -- ---- the call on main data of any length, with d numbers lent
-unfoldable pub read_slots : FrameHeader → SideInfo → List ℕ → ℕ → Told (List Outcome)
+unfoldable pub read_slots : FrameHeader → SideInfo → List ℕ → ℕ → Result (List Outcome) Refusal
 read_slots h i s d =
-    pick (ltb d per_frame) (refused UnfitMemory)
-    (pick (is_header h && is_side h i) (told (slots_of h i s)) (refused MadeUpRecord))
+    pick (ltb d per_frame) (Err UnfitMemory)
+    (pick (is_header h && is_side h i) (Ok (slots_of h i s)) (Err MadeUpRecord))

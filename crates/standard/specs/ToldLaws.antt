@@ -1,7 +1,7 @@
 -- What a test that is known makes of a pick; what a reading that told something passed on the way; and of two tests that both hold or both fail.
-use Rattle.std.specs.Prelude.{◌≡◌, refl, Bool, true, false, ◌&&◌, ◌||◌, ℕ}
+use Rattle.std.specs.Prelude.{◌≡◌, refl, Bool, true, false, ◌&&◌, ◌||◌, ℕ, Result, Ok, Err}
 use Rattle.std.proofs.Common.{sym, ap, ◌∙◌, arith}
-use Rattle.standard.specs.Told.{Told, refused, told, pick}
+use Rattle.standard.specs.Told.{pick}
 use Rattle.standard.specs.declared.Refusal.{Refusal}
 
 pub picked : {A : Type 0} {b : Bool} {x : A} (y : A) → b ≡ true → pick b x y ≡ x
@@ -20,12 +20,12 @@ pub never : {A : Type 0} → false ≡ true → A
 never e = clash cc
 
 -- where something was told, no refusal was met on the way
-pub no_refusal : {A : Type 0} (b : Bool) (r : Refusal) (y : Told A) (a : A) → pick b (refused r) y ≡ told a → (b ≡ false) × (y ≡ told a)
+pub no_refusal : {A : Type 0} (b : Bool) (r : Refusal) (y : Result A Refusal) (a : A) → pick b (Err r) y ≡ Ok a → (b ≡ false) × (y ≡ Ok a)
 unfolding pick
 no_refusal true r y a e = clash cc
 no_refusal false r y a e = (refl, e)
 
-pub told_is : {A : Type 0} {a b : A} → told a ≡ told b → a ≡ b
+pub told_is : {A : Type 0} {a b : A} → ◌≡◌ {A = Result A Refusal} (Ok a) (Ok b) → a ≡ b
 told_is e = cc
 
 pub both_of : (a b : Bool) → a && b ≡ true → (a ≡ true) × (b ≡ true)

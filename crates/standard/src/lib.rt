@@ -101,12 +101,18 @@ pub enum Shape {
     LongThenShort,
 }
 
-// How a slot's bits hold its factors: four groups in turn, of so many factors, of so many bits each, or shared with granule 0.
+// Factors that stand next to each other: so many, of so many bits each, or shared with granule 0.
+#[derive(Clone, Copy)]
+pub struct Group {
+    pub count: u16,
+    pub length: u16,
+    pub shared: bool,
+}
+
+// How a slot's bits hold its factors: four groups in turn.
 #[derive(Clone, Copy)]
 pub struct Plan {
-    pub counts: [u16; 4],
-    pub lengths: [u16; 4],
-    pub shares: [bool; 4],
+    pub groups: [Group; 4],
 }
 
 // The side information of one slot: one granule of one channel.
@@ -169,25 +175,6 @@ pub enum Refusal {
     NoCodeword,
 }
 
-#[derive(Clone, Copy)]
-pub enum Verdict {
-    Accepted,
-    Refused(Refusal),
-}
-
-#[derive(Clone, Copy)]
-pub enum HeaderAnswer {
-    Header(FrameHeader),
-    NoHeader(Refusal),
-}
-
-// Side information, or a refusal and blank side information.
-#[derive(Clone, Copy)]
-pub struct SideInfoAnswer {
-    pub verdict: Verdict,
-    pub info: SideInfo,
-}
-
 // What a slot is read by, besides its record: whether the version is MPEG-1, whether it is the second channel under intensity
 // stereo, the sampling rate, and the sharing bits in force for its four groups of factors.
 #[derive(Clone, Copy)]
@@ -198,53 +185,52 @@ pub struct Setting {
     pub shares: [bool; 4],
 }
 
-// What became of a slot: read, with its count of numbers up to the last that was coded; refused; or one that the frame lacks.
+// What became of a slot: read, with its count of numbers up to the last that was coded, its 22 long factors, and three windows of each of
+// 13 short bands, one after the other; refused; or one that the frame lacks. The numbers themselves stand in lent memory.
 #[derive(Clone, Copy)]
-pub enum SlotOutcome {
-    Read { count: u16 },
+pub enum SlotAnswer {
+    Read {
+        count: u16,
+        long: [u8; 22],
+        short: [u8; 39],
+    },
     NotRead(Refusal),
     Lacking,
 }
 
-// A slot's answer beside its 576 numbers: 22 long factors, and three windows of each of 13 short bands, one after the other.
-// The factors of a slot that was not read are 0.
+// What a frame's bytes say of it, before its slots: header, side information, and the length that follows from them.
 #[derive(Clone, Copy)]
-pub struct SlotAnswer {
-    pub outcome: SlotOutcome,
-    pub long: [u8; 22],
-    pub short: [u8; 39],
-}
-
-#[derive(Clone, Copy)]
-pub struct SlotsAnswer {
-    pub verdict: Verdict,
-    pub slots: [SlotAnswer; 4],
-}
-
-// What became of the reservoir, whose bytes stand in lent memory.
-#[derive(Clone, Copy)]
-pub struct ReservoirAnswer {
-    pub verdict: Verdict,
-    pub reservoir: Reservoir,
-}
-
-// A frame's answer. Of a refused frame, header, side information and slots are blank and the length is 0, except where only
-// the reservoir was too short: there all but the slots was read, and is told.
-#[derive(Clone, Copy)]
-pub struct FrameAnswer {
-    pub verdict: Verdict,
+pub struct FrameHead {
     pub header: FrameHeader,
     pub info: SideInfo,
     pub length: usize,
-    pub slots: [SlotAnswer; 4],
-    pub reservoir: Reservoir,
 }
 
-// One codeword: what it stands for and how many bits it takes; or the bits end within one; or they start none.
-// A pair (x, y) is the value 16 x + y, a quad (v, w, x, y) the value 8 v + 4 w + 2 x + y.
+// A frame that was read.
 #[derive(Clone, Copy)]
-pub enum Codeword {
-    Coded { value: u8, used: usize },
+pub struct Frame {
+    pub head: FrameHead,
+    pub slots: [SlotAnswer; 4],
+}
+
+// Why a frame has no slots: it is refused, and nothing is told of it; or only the reservoir was too short (ShortReservoir), and all but the
+// slots was read.
+#[derive(Clone, Copy)]
+pub enum FrameRefusal {
+    Unread(Refusal),
+    OutOfReach(FrameHead),
+}
+
+// What was read, and how many bits it takes.
+#[derive(Clone, Copy)]
+pub struct Taken<T> {
+    pub value: T,
+    pub used: usize,
+}
+
+// Why no codeword is read: the bits end within one, or they start none.
+#[derive(Clone, Copy)]
+pub enum Unread {
     Cut,
     Alien,
 }
@@ -254,39 +240,4 @@ pub enum Codeword {
 pub struct Regions {
     pub first: u16,
     pub second: u16,
-}
-
-// How large a number is, with the escape bits that say so; or the bits end within them.
-#[derive(Clone, Copy)]
-pub enum Magnitude {
-    Sized { value: u32, used: usize },
-    Unsized,
-}
-
-// A number with its escape and sign bits, and how many these are; or the bits end within them.
-#[derive(Clone, Copy)]
-pub enum Number {
-    Whole { value: i32, used: usize },
-    Broken,
-}
-
-// A pair with all of its bits, or why the slot is refused there.
-#[derive(Clone, Copy)]
-pub enum Pair {
-    Two { x: i32, y: i32, used: usize },
-    NoPair(Refusal),
-}
-
-// A quad with all of its bits; or one that does not end, and is dropped; or bits that start no quad.
-#[derive(Clone, Copy)]
-pub enum Quad {
-    Four {
-        v: i32,
-        w: i32,
-        x: i32,
-        y: i32,
-        used: usize,
-    },
-    Dropped,
-    NoQuad,
 }

@@ -1,12 +1,16 @@
--- `bits::far_eight` meets its contract: the bits of eight bytes spell them, four and four. Assumes nothing.
-use Rattle.bits.proofs.Eights.{four_up, eight_fits, eight_spelt}
+-- `bits::far_eight` meets its contract. The loop's invariant: the number is what the bits of the bytes passed spell.
+use native.Mathlib.Omega.{arith}
+use Rattle.bits.proofs.Spelt.{none_spelt, spelt_on, spelt_small}
 use Rattle.bits.proofs.far_eight.Goals as goal
 
-pub overflow_mul-result : goal.overflow_mul-result
-overflow_mul-result c = let a = c.args in record { fits = four_up a.s.now a.i _ 0 c.far_four.ensures }
+pub loop-k-init : goal.loop-k-init
+loop-k-init c = none_spelt _ _
 
-pub overflow_add-result : goal.overflow_add-result
-overflow_add-result c = let a = c.args in record { fits = eight_fits a.s.now a.i _ _ c.far_four.ensures c.far_four-2.ensures }
+pub overflow_mul-v : goal.overflow_mul-v
+overflow_mul-v c = record { fits = omega (arith, spelt_small _ _ _ c.loop-k.invariant c.loop-k-test.true) }
 
-pub returns : goal.returns
-returns c = let a = c.args in eight_spelt a.s.now a.i _ _ c.far_four.ensures c.far_four-2.ensures
+pub overflow_add-v : goal.overflow_add-v
+overflow_add-v c = record { fits = omega (arith, spelt_small _ _ _ c.loop-k.invariant c.loop-k-test.true, c.byte.ensures.1) }
+
+pub loop-k-preserved : goal.loop-k-preserved
+loop-k-preserved c = spelt_on _ _ _ c.loop-k.invariant c.byte.ensures

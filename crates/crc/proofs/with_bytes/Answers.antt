@@ -7,12 +7,6 @@ use Rattle.crc.proofs.with_bytes.Goals as goal
 pub loop-i-init : goal.loop-i-init
 loop-i-init c = begin_feeding _ _ _ _ (omega arith)
 
-pub overflow_cast-byte : goal.overflow_cast-byte
-overflow_cast-byte c = omega (arith, c.byte.ensures.1)
-
-pub with_byte-word-requires : goal.with_byte-word-requires
-with_byte-word-requires c = c.byte.ensures.1
-
 pub loop-i-preserved : goal.loop-i-preserved
 loop-i-preserved c = feed-on c.loop-i.invariant c.loop-i-test.true _ _ c.byte.ensures.0 c.byte.ensures.1 c.with_byte-word.ensures
 

@@ -19,11 +19,11 @@ use denote.Triple.Clauses.{Ended, Clauses, AtExit}
 use Rattle.bit_reader.specs.declared.BitReader.{BitReader}
 use Rattle.standard.specs.Bits.{field_at}
 use Rattle.bit_reader.specs.Reader.{begun, here, ahead}
-use Rattle.bit_reader.specs.contracts.new as new
-use Rattle.bit_reader.specs.contracts.place as place
-use Rattle.bit_reader.specs.contracts.peek as peek
-use Rattle.bit_reader.specs.contracts.skip as skip
-use Rattle.bit_reader.specs.contracts.read as read
+use Rattle.bit_reader.specs.contracts.BitReader.new as new
+use Rattle.bit_reader.specs.contracts.BitReader.place as place
+use Rattle.bit_reader.specs.contracts.BitReader.peek as peek
+use Rattle.bit_reader.specs.contracts.BitReader.skip as skip
+use Rattle.bit_reader.specs.contracts.BitReader.read as read
 use Rattle.bit_reader.specs.contracts.field_after as field-after
 use Rattle.bit_reader.proofs.field_after.Kinds as field-after-kinds
 use Rattle.bit_reader.proofs.field_after.Reads as field-after-reads

@@ -6,6 +6,8 @@ use Rattle.bits.proofs.byte.Reads as byte
 use Rattle.bits.proofs.byte.Kinds as byte-kinds
 use Rattle.bits.proofs.eight.Reads as eight
 use Rattle.bits.proofs.eight.Kinds as eight-kinds
+use Rattle.bits.proofs.word.Reads as word
+use Rattle.bits.proofs.word.Kinds as word-kinds
 use Rattle.bits.proofs.field.Reads as field
 use Rattle.bits.proofs.field.Kinds as field-kinds
 use Rattle.bits.proofs.one.Reads as one
@@ -21,6 +23,9 @@ byte-unique κs a x y s t p q = alike p.0 q.0
 
 pub eight_unique : OneAnswer eight-kinds.ps eight-kinds.r eight.Post
 eight_unique κs a x y s t p q = alike p q
+
+pub word_unique : OneAnswer word-kinds.ps word-kinds.r word.Post
+word_unique κs a x y s t p q = alike p q
 
 pub field-unique : OneAnswer field-kinds.ps field-kinds.r field.Post
 field-unique κs a x y s t p q = alike p q

@@ -34,6 +34,8 @@ use Rattle.derived.proofs.number_of.Reads as number-of
 use Rattle.derived.proofs.number_of.Kinds as number-of-kinds
 use Rattle.derived.proofs.offset_of.Reads as offset-of
 use Rattle.derived.proofs.offset_of.Kinds as offset-of-kinds
+use Rattle.derived.proofs.why_of.Reads as why-of
+use Rattle.derived.proofs.why_of.Kinds as why-of-kinds
 
 pub bps-unique : OneAnswer bps-kinds.ps bps-kinds.r bps.Post
 bps-unique κs a x y s t p q = alike p q
@@ -85,3 +87,6 @@ number_of_unique κs a x y s t p q = alike p q
 
 pub offset_of_unique : OneAnswer offset-of-kinds.ps offset-of-kinds.r offset-of.Post
 offset_of_unique κs a x y s t p q = alike p q
+
+pub why_of_unique : OneAnswer why-of-kinds.ps why-of-kinds.r why-of.Post
+why_of_unique κs a x y s t p q = alike p q

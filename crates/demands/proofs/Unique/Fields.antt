@@ -8,8 +8,8 @@ use Rattle.fields.proofs.record_values.Reads as record-values
 use Rattle.fields.proofs.record_values.Kinds as record-values-kinds
 use Rattle.fields.proofs.scale_values.Reads as scale-values
 use Rattle.fields.proofs.scale_values.Kinds as scale-values-kinds
-use Rattle.fields.proofs.is_told.Reads as is-told
-use Rattle.fields.proofs.is_told.Kinds as is-told-kinds
+use Rattle.fields.proofs.head_told.Reads as head-told
+use Rattle.fields.proofs.head_told.Kinds as head-told-kinds
 use Rattle.fields.proofs.step.Reads as step
 use Rattle.fields.proofs.step.Kinds as step-kinds
 
@@ -25,8 +25,8 @@ record_values_unique κs a x y s t p q = alike p q
 pub scale_values_unique : OneAnswer scale-values-kinds.ps scale-values-kinds.r scale-values.Post
 scale_values_unique κs a x y s t p q = alike p q
 
-pub is_told_unique : OneAnswer is-told-kinds.ps is-told-kinds.r is-told.Post
-is_told_unique κs a x y s t p q = alike p q
+pub head_told_unique : OneAnswer head-told-kinds.ps head-told-kinds.r head-told.Post
+head_told_unique κs a x y s t p q = alike p q
 
 pub step-unique : OneAnswer step-kinds.ps step-kinds.r step.Post
 step-unique κs a x y s t p q = alike p q

@@ -1,6 +1,5 @@
 -- What no two readers may disagree on, for every public function of `huffman`. Printed by scripts/catalogue.
 use Rattle.demands.proofs.Call.{OneAnswer, OneState, alike}
-use Rattle.huffman.specs.SlotLaws.{one-count}
 use Rattle.huffman.proofs.escape_width.Reads as escape-width
 use Rattle.huffman.proofs.escape_width.Kinds as escape-width-kinds
 use Rattle.huffman.proofs.lookup.Reads as lookup
@@ -25,4 +24,4 @@ pub quad-unique : OneAnswer quad-kinds.ps quad-kinds.r quad.Post
 quad-unique κs a x y s t p q = alike p q
 
 pub read-huffman_unique : OneState read-huffman-kinds.ps read-huffman-kinds.r read-huffman.Post (λ κs s. s.1.1.1.1.1.0.now)
-read-huffman_unique κs a x y s t p q = (one-count x y (alike p.0 q.0), alike p.1 q.1)
+read-huffman_unique κs a x y s t p q = (alike p.0 q.0, alike p.1 q.1)

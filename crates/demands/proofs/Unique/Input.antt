@@ -1,11 +1,11 @@
 -- What no two readers may disagree on, for every public function of `input`. Printed by scripts/catalogue.
 use Rattle.demands.proofs.Call.{OneAnswer, OneShown, alike}
-use Rattle.input.proofs.blank.Reads as blank
-use Rattle.input.proofs.blank.Kinds as blank-kinds
-use Rattle.input.proofs.unread.Reads as unread
-use Rattle.input.proofs.unread.Kinds as unread-kinds
-use Rattle.input.proofs.taken.Reads as taken
-use Rattle.input.proofs.taken.Kinds as taken-kinds
+use Rattle.input.proofs.Held.blank.Reads as blank
+use Rattle.input.proofs.Held.blank.Kinds as blank-kinds
+use Rattle.input.proofs.Held.unread.Reads as unread
+use Rattle.input.proofs.Held.unread.Kinds as unread-kinds
+use Rattle.input.proofs.Held.taken.Reads as taken
+use Rattle.input.proofs.Held.taken.Kinds as taken-kinds
 
 pub blank_unique : OneAnswer blank-kinds.ps blank-kinds.r blank.Post
 blank_unique κs a x y s t p q = λ j. record { from = alike p.0 q.0 j; end = alike p.1 q.1 j }

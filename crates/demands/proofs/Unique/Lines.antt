@@ -1,42 +1,62 @@
 -- What no two readers may disagree on, for every public function of `lines`. Printed by scripts/catalogue.
-use Rattle.demands.proofs.Call.{OneShown, OneState, alike}
-use Rattle.lines.proofs.put_frame.Reads as put-frame
-use Rattle.lines.proofs.put_frame.Kinds as put-frame-kinds
-use Rattle.lines.proofs.put_refused.Reads as put-refused
-use Rattle.lines.proofs.put_refused.Kinds as put-refused-kinds
-use Rattle.lines.proofs.put_end.Reads as put-end
-use Rattle.lines.proofs.put_end.Kinds as put-end-kinds
-use Rattle.lines.proofs.put_numbers.Reads as put-numbers
-use Rattle.lines.proofs.put_numbers.Kinds as put-numbers-kinds
+use Prim.Native.Nat.{ℕ}
+use Rattle.demands.proofs.Call.{OneShown, alike}
+use mathlib.Core.List.{List}
+use Rattle.lines.proofs.Text.said.Reads as said
+use Rattle.lines.proofs.Text.said.Kinds as said-kinds
+use Rattle.lines.proofs.Text.put.Reads as put
+use Rattle.lines.proofs.Text.put.Kinds as put-kinds
+use Rattle.lines.proofs.Text.number.Reads as number
+use Rattle.lines.proofs.Text.number.Kinds as number-kinds
+use Rattle.lines.proofs.Text.signed.Reads as signed
+use Rattle.lines.proofs.Text.signed.Kinds as signed-kinds
+use Rattle.lines.proofs.Text.frame.Reads as frame
+use Rattle.lines.proofs.Text.frame.Kinds as frame-kinds
+use Rattle.lines.proofs.Text.refused.Reads as refused
+use Rattle.lines.proofs.Text.refused.Kinds as refused-kinds
+use Rattle.lines.proofs.Text.end.Reads as end
+use Rattle.lines.proofs.Text.end.Kinds as end-kinds
+use Rattle.lines.proofs.Text.numbers.Reads as numbers
+use Rattle.lines.proofs.Text.numbers.Kinds as numbers-kinds
+use Rattle.lines.proofs.Text.slots.Reads as slots
+use Rattle.lines.proofs.Text.slots.Kinds as slots-kinds
 use Rattle.lines.proofs.part.Reads as part
 use Rattle.lines.proofs.part.Kinds as part-kinds
-use Rattle.lines.proofs.put_slots.Reads as put-slots
-use Rattle.lines.proofs.put_slots.Kinds as put-slots-kinds
-use Rattle.lines.proofs.text.put_number.Reads as put-number
-use Rattle.lines.proofs.text.put_number.Kinds as put-number-kinds
-use Rattle.lines.proofs.text.put_signed.Reads as put-signed
-use Rattle.lines.proofs.text.put_signed.Kinds as put-signed-kinds
 
-pub put_frame_unique : OneState put-frame-kinds.ps put-frame-kinds.r put-frame.Post (λ κs s. s.0.now)
-put_frame_unique κs a x y s t p q = (alike p.next q.next, alike p.bytes q.bytes)
+pub said_unique : OneShown said-kinds.ps said-kinds.r said.Post (λ κs x s. x.now)
+said_unique κs a x y s t p q = alike p q
 
-pub put_refused_unique : OneState put-refused-kinds.ps put-refused-kinds.r put-refused.Post (λ κs s. s.0.now)
-put_refused_unique κs a x y s t p q = (alike p.next q.next, alike p.bytes q.bytes)
+pub put_unique : OneShown put-kinds.ps put-kinds.r put.Post {S = List ℕ × ℕ}
+    (λ κs x s. (s.0.now.bytes.now, s.0.now.at))
+put_unique κs a x y s t p q = λ j. (alike p.put.bytes q.put.bytes j, alike p.put.next q.put.next j)
 
-pub put_end_unique : OneState put-end-kinds.ps put-end-kinds.r put-end.Post (λ κs s. s.0.now)
-put_end_unique κs a x y s t p q = (alike p.next q.next, alike p.bytes q.bytes)
+pub number_unique : OneShown number-kinds.ps number-kinds.r number.Post {S = List ℕ × ℕ}
+    (λ κs x s. (s.0.now.bytes.now, s.0.now.at))
+number_unique κs a x y s t p q = λ j. (alike p.put.bytes q.put.bytes j, alike p.put.next q.put.next j)
 
-pub put_numbers_unique : OneState put-numbers-kinds.ps put-numbers-kinds.r put-numbers.Post (λ κs s. s.0.now)
-put_numbers_unique κs a x y s t p q = (alike p.next q.next, alike p.bytes q.bytes)
+pub signed_unique : OneShown signed-kinds.ps signed-kinds.r signed.Post {S = List ℕ × ℕ}
+    (λ κs x s. (s.0.now.bytes.now, s.0.now.at))
+signed_unique κs a x y s t p q = λ j. (alike p.put.bytes q.put.bytes j, alike p.put.next q.put.next j)
+
+pub frame-unique : OneShown frame-kinds.ps frame-kinds.r frame.Post {S = List ℕ × ℕ}
+    (λ κs x s. (s.0.now.bytes.now, s.0.now.at))
+frame-unique κs a x y s t p q = λ j. (alike p.put.bytes q.put.bytes j, alike p.put.next q.put.next j)
+
+pub refused_unique : OneShown refused-kinds.ps refused-kinds.r refused.Post {S = List ℕ × ℕ}
+    (λ κs x s. (s.0.now.bytes.now, s.0.now.at))
+refused_unique κs a x y s t p q = λ j. (alike p.put.bytes q.put.bytes j, alike p.put.next q.put.next j)
+
+pub end_unique : OneShown end-kinds.ps end-kinds.r end.Post {S = List ℕ × ℕ}
+    (λ κs x s. (s.0.now.bytes.now, s.0.now.at))
+end_unique κs a x y s t p q = λ j. (alike p.put.bytes q.put.bytes j, alike p.put.next q.put.next j)
+
+pub numbers_unique : OneShown numbers-kinds.ps numbers-kinds.r numbers.Post {S = List ℕ × ℕ}
+    (λ κs x s. (s.0.now.bytes.now, s.0.now.at))
+numbers_unique κs a x y s t p q = λ j. (alike p.put.bytes q.put.bytes j, alike p.put.next q.put.next j)
+
+pub slots_unique : OneShown slots-kinds.ps slots-kinds.r slots.Post {S = List ℕ × ℕ}
+    (λ κs x s. (s.0.now.bytes.now, s.0.now.at))
+slots_unique κs a x y s t p q = λ j. (alike p.put.bytes q.put.bytes j, alike p.put.next q.put.next j)
 
 pub part_unique : OneShown part-kinds.ps part-kinds.r part.Post (λ κs x s. x.now)
 part_unique κs a x y s t p q = alike p q
-
-pub put_slots_unique : OneState put-slots-kinds.ps put-slots-kinds.r put-slots.Post (λ κs s. s.0.now)
-put_slots_unique κs a x y s t p q = (alike p.next q.next, alike p.bytes q.bytes)
-
-pub put_number_unique : OneState put-number-kinds.ps put-number-kinds.r put-number.Post (λ κs s. s.0.now)
-put_number_unique κs a x y s t p q = (alike p.next q.next, alike p.bytes q.bytes)
-
-pub put_signed_unique : OneState put-signed-kinds.ps put-signed-kinds.r put-signed.Post (λ κs s. s.0.now)
-put_signed_unique κs a x y s t p q = (alike p.next q.next, alike p.bytes q.bytes)

@@ -1,8 +1,5 @@
 -- What no two readers may disagree on, for every public function of `side_info`. Printed by scripts/catalogue.
-use Rattle.demands.proofs.Call.{OneAnswer}
-use Rattle.standard.proofs.RefusalsLaws.{one_answer}
-use Rattle.standard.specs.Told.{refused}
-use mathlib.Core.Path.{refl}
+use Rattle.demands.proofs.Call.{OneAnswer, alike}
 use Rattle.side_info.proofs.side_under.Reads as side-under
 use Rattle.side_info.proofs.side_under.Kinds as side-under-kinds
 use Rattle.side_info.proofs.read_side_info.Reads as read-side-info
@@ -11,10 +8,10 @@ use Rattle.side_info.proofs.side.no_side.Reads as no-side
 use Rattle.side_info.proofs.side.no_side.Kinds as no-side-kinds
 
 pub side_under_unique : OneAnswer side-under-kinds.ps side-under-kinds.r side-under.Post
-side_under_unique κs a x y s t p q = let e = one_answer p q in λ j. record { verdict = e.0 j; info = e.1 j }
+side_under_unique κs a x y s t p q = alike p q
 
 pub read-side_info_unique : OneAnswer read-side-info-kinds.ps read-side-info-kinds.r read-side-info.Post
-read-side_info_unique κs a x y s t p q = let e = one_answer p q in λ j. record { verdict = e.0 j; info = e.1 j }
+read-side_info_unique κs a x y s t p q = alike p q
 
 pub no_side_unique : OneAnswer no-side-kinds.ps no-side-kinds.r no-side.Post
-no_side_unique κs a x y s t p q = let e = one_answer (p (refused a.0) refl) (q (refused a.0) refl) in λ j. record { verdict = e.0 j; info = e.1 j }
+no_side_unique κs a x y s t p q = alike p q

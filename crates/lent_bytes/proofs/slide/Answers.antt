@@ -1,32 +1,20 @@
--- `lent_bytes::slide` meets its contract. The loop's invariant: i elements are copied, and what lies beyond is as it was, so what is read
--- next is the old byte. Assumes nothing.
-use mathlib.Core.Path.{◌≡◌, ◌∙◌}
+-- `lent_bytes::slide` meets its contract.
+use mathlib.Core.Path.{◌≡◌, sym, ap, ◌∙◌}
+use Prim.Native.Nat.{ℕ, ◌+◌, ◌-◌}
 use native.Mathlib.Omega.{arith}
-use lib.ListN.{length-drop}
+use lib.ListN.{drop}
+use lib.Seq.{paste, paste-zero}
 use Rattle.lent_bytes.specs.Put.{slid_of}
-use Rattle.standard.specs.CopyLaws.{copying_begin, copying_turn, copying_end, slide_next}
+use Rattle.lent_bytes.proofs.Room.{room}
 use Rattle.lent_bytes.proofs.slide.Goals as goal
-
-pub loop-i-init : goal.loop-i-init
-loop-i-init c = (omega arith, copying_begin _ _ 0)
-
-pub bounds-lent-from : goal.bounds-lent-from
-bounds-lent-from c = omega (arith, c.loop-i.invariant.1.long)
-
-pub bounds-lent-i : goal.bounds-lent-i
-bounds-lent-i c = omega (arith, c.loop-i.invariant.1.long)
-
-pub loop-i-preserved : goal.loop-i-preserved
-loop-i-preserved c =
-    let a = c.args in (
-      omega arith,
-      copying_turn _ _ _ _ _ c.loop-i.invariant.1 0 _ _ (omega arith)
-          (slide_next _ _ a.from c.loop-i.i 0 c.loop-i.invariant.1 (omega arith)) (omega arith)
-          (simp length-drop (omega arith)),
-    )
 
 pub returns : goal.returns
 unfolding slid_of
 returns c =
-    copying_end _ _ _ _ _ c.loop-i.invariant.1 _
-    (let e : c.loop-i.i ≡ c.room_for-there.result = omega arith in e ∙ c.room_for-there.ensures)
+    let old = c.args.lent.now in
+    let s = c.min-start.result in
+    let n : s + c.min-there.result - s ≡ c.min-there.result = omega arith in
+    c.copy_within.ensures.after
+    ∙ ap (paste old 0 (drop s old)) n
+    ∙ room (λ (s n : ℕ). paste old 0 (drop s old) n) (λ a b. sym (paste-zero old 0 (drop a old)) ∙ paste-zero old 0 (drop b old)) _ c.args.from c.args.n
+    c.min-start.ensures c.min-there.ensures

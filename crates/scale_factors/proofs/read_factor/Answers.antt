@@ -10,8 +10,7 @@ use lib.Pow.{pow_mono}
 use Rattle.standard.specs.Told.{pick}
 use Rattle.standard.specs.Bits.{bits, value, field_at}
 use Rattle.standard.specs.BitsLaws.{take-bits, field_at_lt}
-use Rattle.standard.specs.Factors.{width_of, factor_by}
-use Rattle.scale_factors.specs.Groups.{source_of}
+use Rattle.standard.specs.Factors.{shared, coded, width_of, factor_by}
 use Rattle.scale_factors.proofs.read_factor.Goals as goal
 
 byte : (s : List ℕ) (at width v : ℕ) → width ≤ 5 → v ≡ field_at s at (min width 16) → v < 256
@@ -20,25 +19,17 @@ byte s at width v h e =
     let m : 2 ^ min width 16 ≤ 2 ^ 5 = pow_mono k in
     omega (arith, field_at_lt s at (min width 16))
 
-pub returns-then-shares : goal.returns-then-shares
-unfolding pick
-returns-then-shares c =
-    let a = c.args in
-    ap (λ (x : Bool). factor_by (source_of x a.length) (get_or a.old a.i 0) (bits a.s.now a.at (width_of (source_of x a.length))))
-    (sym c.if-shares.true)
-
 pub overflow_cast-result : goal.overflow_cast-result
 overflow_cast-result c =
     let a = c.args in
-    record { fits = byte a.s.now a.at a.length _ c.requires.1 c.field.ensures }
+    record { fits = byte a.s.now a.at a.g.length _ c.requires.1 c.field.ensures }
 
 pub returns : goal.returns
 unfolding pick field_at
 returns c =
     let a = c.args in
-    let w : min a.length 16 ≡ a.length = omega (arith, c.requires.1) in
+    let w : min a.g.length 16 ≡ a.g.length = omega (arith, c.requires.1) in
     c.field.ensures
     ∙ ap (λ (n : ℕ). value (bits a.s.now a.at n)) w
-    ∙ ap value (sym (take-bits a.length a.s.now a.at a.length (omega arith)))
-    ∙ ap (λ (x : Bool). factor_by (source_of x a.length) (get_or a.old a.i 0) (bits a.s.now a.at (width_of (source_of x a.length))))
-    (sym c.if-shares.false)
+    ∙ ap value (sym (take-bits a.g.length a.s.now a.at a.g.length (omega arith)))
+    ∙ ap (λ (x : Bool). let k = pick x shared (coded a.g.length) in factor_by k (get_or a.old.now a.i 0) (bits a.s.now a.at (width_of k))) (sym c.if-g.false)

@@ -1,12 +1,13 @@
 -- `side_info::read_side_info` meets its contract: a header that no bytes read to is refused, and under another it is what follows.
 -- Assumes nothing.
+use Rattle.std.proofs.Common.{sym}
 use Rattle.side_info.proofs.Sides.{side_made_up, side_known}
 use Rattle.side_info.proofs.read_side_info.Goals as goal
 
 pub returns-then-not-is_header : goal.returns-then-not-is_header
 returns-then-not-is_header c =
     let a = c.args in
-    c.no_side.ensures _ (side_made_up a.h a.frame.now c.is_header.ensures c.if-not-is_header.true)
+    sym (side_made_up a.h a.frame.now c.is_header.ensures c.if-not-is_header.true)
 
 pub returns : goal.returns
 returns c =

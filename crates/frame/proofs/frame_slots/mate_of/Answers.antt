@@ -1,20 +1,21 @@
 -- `mate_of` meets its contract: it takes the answer of the same channel's granule 0 slot. Assumes nothing.
-use mathlib.Core.Path.{sym, ap, ◌∙◌}
-use borrow.Author.Tests.{lt-ltb, le-ltb}
+use Rattle.std.proofs.Common.{sym, ap, ◌∙◌, lt-ltb, le-ltb}
 use Rattle.standard.specs.ToldLaws.{picked, passed}
-use Rattle.standard.specs.Slots.{alone, slot_told}
-use Rattle.standard.specs.declared.SlotAnswer.{SlotAnswer}
-use Rattle.frame.specs.Slot.{said_refused, mate_in}
+use Rattle.frame.specs.Slot.{said_long, mate_in}
 use Rattle.frame.proofs.frame_slots.mate_of.Goals as goal
 
 pub returns-then-k-channels : goal.returns-then-k-channels
-unfolding mate_in slot_told alone said_refused
-returns-then-k-channels c =
-    let first = sym (picked _ (lt-ltb _ _ c.if-k-channels.true)) in
-    record { lost_is = ap (λ (a : SlotAnswer). said_refused a.outcome) first; old_is = ap (λ (a : SlotAnswer). a.long) first }
-
-pub returns : goal.returns
 unfolding mate_in
-returns c =
-    let second = sym (passed _ (le-ltb _ _ c.if-k-channels.false)) in
-    record { lost_is = c.was_refused.ensures ∙ ap (λ (a : SlotAnswer). said_refused a.outcome) second; old_is = ap (λ (a : SlotAnswer). a.long) second }
+returns-then-k-channels c = sym (picked _ (lt-ltb _ _ c.if-k-channels.true))
+
+pub returns-in-Read : goal.returns-in-Read
+unfolding mate_in said_long
+returns-in-Read c = sym (passed _ (le-ltb _ _ c.if-k-channels.false) ∙ ap said_long c.in-Read.is)
+
+pub returns-in-NotRead : goal.returns-in-NotRead
+unfolding mate_in said_long
+returns-in-NotRead c = sym (passed _ (le-ltb _ _ c.if-k-channels.false) ∙ ap said_long c.in-NotRead.is)
+
+pub returns-in-Lacking : goal.returns-in-Lacking
+unfolding mate_in said_long
+returns-in-Lacking c = sym (passed _ (le-ltb _ _ c.if-k-channels.false) ∙ ap said_long c.in-Lacking.is)

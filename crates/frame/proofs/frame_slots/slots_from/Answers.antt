@@ -9,26 +9,16 @@ use Rattle.frame.proofs.frame_slots.slots_from.Goals as goal
 
 pub slice_bounds-read_slot-end : goal.slice_bounds-read_slot-end
 slice_bounds-read_slot-end c =
-    omega (arith, c.loop-k.invariant.0, c.loop-k.invariant.3.room, c.loop-k.invariant.3.long, four_at_most c.args.h)
-
-pub channel_count-channels-requires : goal.channel_count-channels-requires
-channel_count-channels-requires c = tt
-
-pub granules-requires : goal.granules-requires
-granules-requires c = tt
+    omega (arith, c.loop-k.invariant.0, c.loop-k.invariant.2.room, c.loop-k.invariant.2.long, four_at_most c.args.h)
 
 pub overflow_mul-n : goal.overflow_mul-n
 overflow_mul-n c = rw (c.granules.ensures, c.channel_count-channels.ensures) (record { fits = omega (arith, four_at_most c.args.h) })
-
-pub lacking_slots-answers-requires : goal.lacking_slots-answers-requires
-lacking_slots-answers-requires c = tt
 
 pub loop-k-init : goal.loop-k-init
 loop-k-init c = (
   (λ j. c.granules.ensures j * c.channel_count-channels.ensures j),
   c.channel_count-channels.ensures,
-  omega arith,
-  turning_begin _ _ _ _ _ c.requires.0 c.lacking_slots-answers.ensures,
+  turning_begin _ _ _ _ _ (omega arith) c.lacking_slots-answers.ensures,
 )
 
 pub offset_bounds-i-k : goal.offset_bounds-i-k
@@ -37,8 +27,8 @@ offset_bounds-i-k c = omega (arith, four_at_most c.args.h)
 pub bounds-i-k : goal.bounds-i-k
 bounds-i-k c = omega (arith, four_at_most c.args.h)
 
-pub mate_of-m-requires : goal.mate_of-m-requires
-mate_of-m-requires c =
+pub mate_of-old-requires : goal.mate_of-old-requires
+mate_of-old-requires c =
     let h = c.args.h in
     (omega (arith, c.loop-k.invariant.0, four_at_most h), omega (arith, c.loop-k.invariant.1, some_channels h))
 
@@ -81,16 +71,16 @@ slice_bounds-read_slot-count c =
           c.args.h,
     )
 
-pub read_slot-a-requires : goal.read_slot-a-requires
-read_slot-a-requires c =
+pub read_slot-requires : goal.read_slot-requires
+read_slot-requires c =
     let a = c.args in
     let o = c.loop-k in
-    let q = record_at_lem a.h a.i c.requires.1 o.k
+    let q = record_at_lem a.h a.i c.requires o.k
     (omega (arith, o.invariant.0)) past_record in (
-      part_long o.k o.numbers (omega (arith, o.invariant.0, o.invariant.3.room, o.invariant.3.long, four_at_most a.h)),
+      part_long o.k o.numbers (omega (arith, o.invariant.0, o.invariant.2.room, o.invariant.2.long, four_at_most a.h)),
       q.pairs-le,
       q.length-lt,
-      omega (arith, o.invariant.3.near, o.invariant.0, four_at_most a.h),
+      omega (arith, o.invariant.2.near, o.invariant.0, four_at_most a.h),
     )
 
 pub offset_bounds-answers-k : goal.offset_bounds-answers-k
@@ -116,7 +106,7 @@ overflow_cast-at c =
     let a = c.args in
     let o = c.loop-k in
     let q = record_at_lem a.h a.i
-    c.requires.1 o.k
+    c.requires o.k
     (omega (arith, o.invariant.0)) past_record in
     omega (arith, q.length-lt)
 
@@ -125,36 +115,26 @@ overflow_add-at c =
     let a = c.args in
     let o = c.loop-k in
     let q = record_at_lem a.h a.i
-    c.requires.1 o.k
+    c.requires o.k
     (omega (arith, o.invariant.0)) past_record in
-    omega (arith, q.length-lt, o.invariant.3.near, o.invariant.0, four_at_most a.h)
-
-pub overflow_add-k : goal.overflow_add-k
-overflow_add-k c =
-    omega (
-      arith,
-      c.loop-k.invariant.0,
-      four_at_most
-          c.args.h,
-    )
+    omega (arith, q.length-lt, o.invariant.2.near, o.invariant.0, four_at_most a.h)
 
 pub loop-k-preserved : goal.loop-k-preserved
 loop-k-preserved c =
     let a = c.args in
     let o = c.loop-k in
     let q = record_at_lem a.h a.i
-    c.requires.1 o.k
+    c.requires o.k
     (omega (arith, o.invariant.0)) past_record in (
       o.invariant.0,
       o.invariant.1,
-      omega arith,
-      turning_part _ _ _ _ _ _ _ _ o.invariant.3
-          c.requires.1 _ _ _ _ _ _
+      turning_part _ _ _ _ _ _ _ _ o.invariant.2
+          c.requires _ _ _ _ _
           (omega (arith, o.invariant.0)) q c.setting_of-g.ensures
-          (rw o.invariant.1 at c.mate_of-m.ensures) c.read_slot-a.ensures,
+          (rw o.invariant.1 at c.mate_of-old.ensures) c.read_slot.ensures,
     )
 
 pub returns : goal.returns
 returns c =
-    turning_end _ _ _ _ _ _ _ _ c.loop-k.invariant.3 (four_slots _ _ c.requires.1)
+    turning_end _ _ _ _ _ _ _ _ c.loop-k.invariant.2 (four_slots _ _ c.requires)
     (omega (arith, c.loop-k.invariant.0))

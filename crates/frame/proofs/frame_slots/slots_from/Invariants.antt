@@ -7,7 +7,4 @@ use Rattle.frame.proofs.Turns.{Turning}
 use Rattle.frame.proofs.frame_slots.slots_from.Given as goal
 
 abbrev pub invariant-loop-k : goal.invariant-loop-k
-invariant-loop-k l = (l.n ≡ granules l.h * channel_count l.h) × (l.channels ≡ channel_count l.h) × (l.k ≤ l.n) × Turning l.h l.i l.main l.initial.numbers l.numbers l.answers l.at l.k
-
-abbrev pub decreases-loop-k : goal.decreases-loop-k
-decreases-loop-k l = l.n - l.k
+invariant-loop-k l = (l.n ≡ granules l.h * channel_count l.h) × (l.channels ≡ channel_count l.h) × Turning l.h l.i l.main l.initial.numbers l.numbers l.answers l.at l.k

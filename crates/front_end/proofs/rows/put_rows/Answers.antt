@@ -1,30 +1,23 @@
 -- `put_rows` meets its contract. The loop's invariant: what the rows from the k-th on make of the lent numbers is what all of them make of
 -- those at entry. Assumes nothing.
-use mathlib.Core.Path.{refl, ap, ◌∙◌}
-use Prim.Native.Nat.{◌+◌, ◌*◌}
+use mathlib.Core.Path.{◌≡◌, sym, ap, ◌∙◌}
 use native.Mathlib.Omega.{arith}
 use borrow.Author.Rules.{rules}
-use lib.ListN.{drop}
-use Rattle.front_end.specs.Calls.{per_row, rows_from}
+use Rattle.std.proofs.lemmas.Slice.{put_mid-paste}
+use lib.ListN.{length}
 use Rattle.front_end.proofs.Laws.{rows-turn, rows_end}
 use Rattle.front_end.proofs.rows.put_rows.Goals as goal
 
-pub loop-k-init : goal.loop-k-init
-loop-k-init c = (omega arith, refl, refl)
-
-pub put_row-requires : goal.put_row-requires
-put_row-requires c = omega (arith, c.loop-k.invariant.1)
-
 pub loop-k-preserved : goal.loop-k-preserved
 loop-k-preserved c =
-    let a = c.args in (
-      omega arith,
-      search rules,
-      ap (rows_from (per_row * (c.loop-k.k + 1)) (drop (c.loop-k.k + 1) a.records) (drop (c.loop-k.k + 1) a.slots)) c.put_row.ensures
-          ∙ rows-turn a.records a.slots _ _ c.loop-k.k _ _ (search rules) (search rules) (omega arith) c.loop-k.invariant.2,
-    )
+    let a = c.args in
+    let is = c.copy_from_slice.ensures.after ∙ c.row_of.ensures in
+    let long : length c.row_of.result ≡ 71 = search rules in
+    λ rest.
+    rows-turn a.records a.slots _ rest _ c.loop-k.k _ _ (search rules) (search rules) (omega arith) (search rules)
+    (put_mid-paste _ _ _ _ _ 71 is (omega arith) (sym long ∙ ap length c.row_of.ensures)) (c.loop-k.invariant rest)
 
 pub returns : goal.returns
 returns c =
     let a = c.args in
-    rows_end a.records a.slots _ _ c.loop-k.k (search rules) (omega arith) c.loop-k.invariant.2
+    λ rest. rows_end a.records a.slots _ _ c.loop-k.k (search rules) (omega arith) (c.loop-k.invariant rest)

@@ -3,7 +3,6 @@ use mathlib.Core.Path.{◌≡◌, refl, sym, ap, subst, ◌∙◌}
 use Prim.Native.Nat.{ℕ, zero, suc, ◌<◌}
 use native.Mathlib.Omega.{arith}
 use lib.IntN.{ℤ, pos, ◌-ℤ◌}
-use lib.ListN.{get_or}
 use mir.Syntax.{w32}
 use mir.Val.{SFits, to_z, of_z}
 use mir.ValLaws.{to_z_pos, to_z-of_z}
@@ -27,7 +26,9 @@ digit-fits (suc zero) = record { sfits = omega arith }
 digit-fits (suc (suc n)) = record { sfits = omega arith }
 
 pub overflow_sub-result : goal.overflow_sub-result
-overflow_sub-result c = let n = get_or c.args.t.now c.args.i 0 in subst (SFits w32) (sym (less_one n c.requires.1)) (digit-fits n)
+overflow_sub-result c = let n = c.cell.result in subst (SFits w32) (sym (less_one n (omega arith))) (digit-fits n)
 
 pub returns : goal.returns
-returns c = let n = get_or c.args.t.now c.args.i 0 in ap (λ (z : ℤ). to_z w32 (of_z w32 z)) (less_one n c.requires.1) ∙ to_z-of_z w32 (digit n) (digit-fits n)
+returns c =
+    let n = c.cell.result in
+    ap (λ (z : ℤ). to_z w32 (of_z w32 z)) (less_one n (omega arith)) ∙ to_z-of_z w32 (digit n) (digit-fits n) ∙ ap digit c.cell.ensures

@@ -1,4 +1,5 @@
 -- `huffman::values::escaped` meets its contract: the second number stands after the first. Assumes nothing.
+use Rattle.std.specs.Prelude.{Ok, Err}
 use mathlib.Core.Path.{◌≡◌, sym, subst}
 use Prim.Native.Nat.{◌+◌}
 use native.Mathlib.Omega.{arith}
@@ -7,7 +8,7 @@ use mir.Syntax.{w32}
 use mir.Val.{to_z, of_z}
 use Rattle.standard.specs.Numbers.{two_of}
 use Rattle.standard.specs.declared.Refusal.TheVariants.{PairOverrun}
-use Rattle.standard.specs.declared.Pair.TheVariants.{Two, NoPair}
+use Rattle.standard.specs.Codes.{taken}
 use Rattle.huffman.specs.Owns.{Owns}
 use Rattle.huffman.proofs.Numerals.{two_is}
 use borrow.Author.Rules.{rules}
@@ -21,8 +22,8 @@ returns c =
     let k : to_z w32 (of_z w32 m.result.value) ≡ m.result.value = search rules in
     let l : to_z w32 (of_z w32 n.result.value) ≡ n.result.value = search rules in (
       (λ s p e.
-          subst (λ (i : ℤ). Owns (two_of a.width a.x a.y) (Two i (to_z w32 (of_z w32 n.result.value)) (m.result.used + n.result.used)) (NoPair PairOverrun) s (p + a.gone) (m.result.used + n.result.used)) (sym k)
-          (subst (λ (j : ℤ). Owns (two_of a.width a.x a.y) (Two m.result.value j (m.result.used + n.result.used)) (NoPair PairOverrun) s (p + a.gone) (m.result.used + n.result.used)) (sym l)
+          subst (λ (i : ℤ). Owns (two_of a.width a.x a.y) (Ok (taken (i, to_z w32 (of_z w32 n.result.value)) (m.result.used + n.result.used))) (Err PairOverrun) s (p + a.gone) (m.result.used + n.result.used)) (sym k)
+          (subst (λ (j : ℤ). Owns (two_of a.width a.x a.y) (Ok (taken (m.result.value, j) (m.result.used + n.result.used))) (Err PairOverrun) s (p + a.gone) (m.result.used + n.result.used)) (sym l)
           (two_is a.width a.x a.y m.result.used n.result.used m.result.value n.result.value s p a.gone (m.ensures.0 s p e) (n.ensures.0 s p e)))),
       omega (arith, m.ensures.1, n.ensures.1),
     )

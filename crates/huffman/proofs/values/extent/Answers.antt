@@ -1,9 +1,10 @@
 -- `huffman::values::extent` meets its contract: 15 has an escape where its table has escapes. Assumes nothing.
+use Rattle.std.specs.Prelude.{Some, None}
 use mathlib.Core.Path.{sym, subst}
 use Prim.Native.Nat.{ℕ, ◌+◌, ◌*◌, ◌^◌}
 use native.Mathlib.Omega.{arith}
 use Rattle.standard.specs.Numbers.{magnitude_of}
-use Rattle.standard.specs.declared.Magnitude.TheVariants.{Sized, Unsized}
+use Rattle.standard.specs.Codes.{taken}
 use Rattle.huffman.specs.Owns.{Owns}
 use Rattle.huffman.proofs.Owning.{magnitude_plain}
 use Rattle.huffman.proofs.Numerals.{extent_none, extent_some, top_lt}
@@ -15,7 +16,7 @@ returns-then-value-ne15 c = let a = c.args in ((λ s p e. magnitude_plain a.widt
 pub returns-then-width-eq0 : goal.returns-then-width-eq0
 returns-then-width-eq0 c =
     let a = c.args in (
-      (λ s p e. subst (λ (w : ℕ). Owns (magnitude_of w a.value) (Sized a.value 0) Unsized s (p + a.gone) 0) (sym c.if-width-eq0.true) (extent_none a.value s (p + a.gone) c.if-value-ne15.false)),
+      (λ s p e. subst (λ (w : ℕ). Owns (magnitude_of w a.value) (Some (taken a.value 0)) None s (p + a.gone) 0) (sym c.if-width-eq0.true) (extent_none a.value s (p + a.gone) c.if-value-ne15.false)),
       omega arith,
       omega (arith, c.requires.2),
     )

@@ -18,9 +18,6 @@ minus_fits : (v : ℕ) → v < 2 ^ 31 → SFits w32 (neg_ℤ (pos v))
 minus_fits zero h = record { sfits = omega arith }
 minus_fits (suc v) h = record { sfits = omega arith }
 
-pub overflow_sub-result : goal.overflow_sub-result
-overflow_sub-result c = subst (SFits w32) (sym (minus_of c.args.value c.requires)) (minus_fits c.args.value c.requires)
-
 pub returns-then-minus : goal.returns-then-minus
 unfolding sign_of
 returns-then-minus c =
@@ -28,6 +25,6 @@ returns-then-minus c =
     ∙ minus_of c.args.value c.requires
     ∙ ap (λ (b : Bool). sign_of b c.args.value) (sym c.if-minus.true)
 
-pub returns : goal.returns
+pub returns-else-minus : goal.returns-else-minus
 unfolding sign_of
-returns c = to_z_pos w32 c.args.value c.requires ∙ ap (λ (b : Bool). sign_of b c.args.value) (sym c.if-minus.false)
+returns-else-minus c = to_z_pos w32 c.args.value c.requires ∙ ap (λ (b : Bool). sign_of b c.args.value) (sym c.if-minus.false)

@@ -1,23 +1,20 @@
 -- `record_check::checks::gain_number` meets its contract: a float is known by its pattern, and the eight patterns are the eight gains'.
 -- Assumes nothing.
-use mathlib.Core.Path.{◌≡◌, refl, ap, ◌∙◌}
+use mathlib.Core.Path.{◌≡◌, refl, sym, ap, ◌∙◌}
 use Prim.Native.Nat.{ℕ, ◌*◌, ◌/◌, ◌%◌}
 use native.Mathlib.Omega.{arith}
 use borrow.Author.Rules.{rules}
 use lib.Ieee.{binary32, to_bits}
 use denote.Floats.{passes}
-use Rattle.record_check.proofs.Gains.{gain_at, gain_nan, gain_none, no_nan}
+use Rattle.record_check.proofs.Gains.{gain_at, gain_nan, gain_none}
 use Rattle.record_check.proofs.checks.gain_number.Goals as goal
 
 -- a pattern whose last 21 bits are 0, by those before
 pattern : (p k : ℕ) → p % 2097152 ≡ 0 → p / 2097152 ≡ k → p ≡ 2097152 * k
 pattern p k h e = omega arith
 
-pub returns-then-g : goal.returns-then-g
-returns-then-g c = gain_nan _ c.if-g.true
-
-pub float_to_bits-p : goal.float_to_bits-p
-float_to_bits-p c = no_nan _ c.if-g.false
+pub returns-then-is_nan : goal.returns-then-is_nan
+returns-then-is_nan c = gain_nan _ (sym c.is_nan.ensures.value ∙ c.if-is_nan.true)
 
 pub returns-then-p-eq0 : goal.returns-then-p-eq0
 returns-then-p-eq0 c = gain_at _ 0 refl (passes _ c.well_formed.0.1) c.if-p-eq0.true

@@ -1,19 +1,14 @@
--- `side_info::record::read_record` meets its contract: its parts are the record's, so that the verdict and the record are.
+-- `side_info::record::read_record` meets its contract: its parts are the record's.
 -- Assumes nothing.
-use mathlib.Core.Path.{refl, ap, ◌∙◌}
-use Prim.Native.Nat.{ℕ, ◌+◌}
-use native.Mathlib.Omega.{arith}
+use Rattle.std.proofs.Common.{ap, ◌∙◌, ℕ, ◌+◌}
 use Rattle.standard.specs.Bits.{field_at}
-use Rattle.side_info.specs.Parts.{PartsAt}
-use Rattle.record_check.proofs.Widths.{width}
+use Rattle.standard.specs.Record.{record_of}
+use Rattle.side_info.specs.Parts.{record_bits}
 use Rattle.side_info.proofs.record.read_record.Goals as goal
-
-pub overflow_add-at-2 : goal.overflow_add-at-2
-overflow_add-at-2 c = omega (arith, width c.args.mpeg1)
 
 pub returns : goal.returns
 returns c =
     let a = c.args in
     let window = c.word-w.ensures ∙ ap (λ (n : ℕ). field_at a.s.now (a.at + 29 + n) 23) c.compress_width-c.ensures in
-    let parts : PartsAt a.mpeg1 a.s.now a.at _ _ = record { common = c.read_common-k.ensures; window = window } in
-    record { verdict = c.verdict_of-verdict.ensures _ _ _ _ parts refl; value = λ x f. c.slot_of-slot.ensures _ _ _ _ x parts f }
+    c.record_of.ensures _ _ _ (record { common = c.read_common-k.ensures; window = window })
+    ∙ (λ j. let m = c.is_mpeg1-mpeg1.ensures j in record_of m (c.is_slow.ensures j) (record_bits m a.s.now a.at))

@@ -1,6 +1,0 @@
--- Each line ends further on.
-use Rattle.std.proofs.Common.{length, ◌-◌}
-use Rattle.cases.proofs.walk.Given as goal
-
-abbrev pub decreases-loop-at : goal.decreases-loop-at
-decreases-loop-at g l = length l.text - l.at

@@ -1,6 +1,0 @@
--- The bytes that remain fall.
-use Rattle.std.proofs.Common.{length, ◌-◌}
-use Rattle.dump.proofs.walk.summed.Given as goal
-
-abbrev pub decreases-loop-i : goal.decreases-loop-i
-decreases-loop-i l = length l.text - l.i

@@ -1,1 +1,0 @@
--- `frame::refusal_of` meets its contract: the reason is the answer's own. Assumes nothing.

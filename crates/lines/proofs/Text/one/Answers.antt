@@ -1,0 +1,6 @@
+-- What is put one after the other is the join.
+use Rattle.lines.specs.AddsLaws.{adds_then}
+use Rattle.lines.proofs.Text.one.Goals as goal
+
+pub returns : goal.returns
+returns c = adds_then (adds_then c.put.ensures c.number.ensures) c.put-2.ensures
