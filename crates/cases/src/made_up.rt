@@ -2,6 +2,7 @@
 use crate::words::Words;
 use header::{no_header, read_frame_header};
 use side_info::read_side_info;
+use side_info::side::no_side;
 use standard::{BlockType, FrameHeader, SampleRate, SideInfo, SlotRecord};
 
 // A line names no more fields.
@@ -11,32 +12,8 @@ pub(crate) fn header_in(frame: &[u8]) -> FrameHeader {
     read_frame_header(frame).unwrap_or(no_header())
 }
 
-// A record of a slot that the frame lacks.
-fn absent_record() -> SlotRecord {
-    SlotRecord {
-        part2_3_length: 0,
-        big_values: 0,
-        global_gain: 0,
-        scalefac_compress: 0,
-        block_type: BlockType::Long,
-        mixed_block_flag: false,
-        subblock_gain: [0.0f32; 3],
-        table_select: [0u8; 3],
-        region0_count: 0,
-        region1_count: 0,
-        preflag: false,
-        scalefac_scale: false,
-        count1table_select: false,
-    }
-}
-
-// Where it cannot be read, side information of absent records.
 fn side_in(frame: &[u8]) -> SideInfo {
-    read_side_info(header_in(frame), frame).unwrap_or(SideInfo {
-        main_data_begin: 0,
-        scfsi: [false; 8],
-        slots: [absent_record(); 4],
-    })
+    read_side_info(header_in(frame), frame).unwrap_or(no_side())
 }
 
 pub(crate) fn header_by(frame: &[u8], line: &[u8]) -> FrameHeader {
@@ -47,7 +24,7 @@ pub(crate) fn header_by(frame: &[u8], line: &[u8]) -> FrameHeader {
     header
 }
 
-// By any number, which `side_info` has no word for: its bits spell 0 to 3 alone.
+// By any number of a line; the two bits of side information spell 0 to 3 alone, and `side_info` asks its callers for that.
 fn block_of(n: usize) -> BlockType {
     match n {
         0 => BlockType::Long,

@@ -225,7 +225,7 @@ fn run_line<'a>(rt: &impl Print, line: &'a [u8], bytes: &mut [u8], state: &mut S
 
 fn main(rt: HostRuntime) {
     let mut text = [0u8; 65536];
-    let mut bytes = [0u8; 4096];
+    let mut bytes = [0u8; RESERVOIR_BYTES];
     let mut reader = rt.stdin();
     let mut held = Held::blank();
     held.fill(&mut reader, &mut text);

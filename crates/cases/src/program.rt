@@ -5,7 +5,7 @@ use frame::process_frame;
 use input::Held;
 use lines::Text;
 use reservoir::emptied;
-use standard::{FRAME_NUMBERS, Reservoir};
+use standard::{FRAME_NUMBERS, RESERVOIR_BYTES, Reservoir};
 
 // The n-th frame; answers its length, if it was accepted.
 fn say_frame(
@@ -59,7 +59,7 @@ fn say_frames(rt: &impl Print, card: &[u8], bytes: &mut [u8]) -> u64 {
 
 // All that the program `slots` writes of a card.
 pub(crate) fn say_program(rt: &impl Print, card: &[u8]) {
-    let mut bytes = [0u8; 4096];
+    let mut bytes = [0u8; RESERVOIR_BYTES];
     let mut out = [0u8; 64];
     say(rt, b"front end\n");
     let frames = say_frames(rt, card, &mut bytes);

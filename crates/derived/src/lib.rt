@@ -208,7 +208,7 @@ pub fn channel_count(h: FrameHeader) -> usize
 }
 
 // ---- what a refusal is called
-// A number only here, for text and exported rows.
+// Numbers are given here alone, since text and exported rows need them, and `standard` has no code for them.
 
 // The number of a refusal (docs/REFUSALS.md), for programs to print and for callers in other languages.
 pub fn number_of(why: Refusal) -> u8
@@ -249,7 +249,7 @@ pub fn offset_of(why: Refusal) -> usize
     }
 }
 
-// Why a frame has no slots, in one word.
+// Why a frame has no slots.
 pub fn why_of(e: FrameRefusal) -> Refusal
     ensures { result ≡ why_of e }
 {

@@ -2,7 +2,7 @@
 use crate::rows::{put_answer, put_card};
 use fields::step;
 use frame::Memory;
-use input::{Held, Input};
+use input::{Held, Input, Source};
 use lines::Text;
 use reservoir::emptied;
 use standard::{FRAME_NUMBERS, Frame, FrameRefusal};
@@ -32,31 +32,6 @@ pub(crate) struct Words {
 pub(crate) enum Output {
     Written,
     Summed(u64),
-}
-
-// The input as far as it is read, with lent bytes for a piece of it.
-#[derive(Drop)]
-struct Source<'a, R> {
-    reader: &'a mut R,
-    piece: &'a mut [u8],
-    held: Held,
-    input: Input,
-}
-
-impl<'a, R: Read> Source<'a, R> {
-    fn unread(&self) -> &[u8] {
-        self.held.unread(self.piece)
-    }
-
-    // Reads on, where too little is ahead.
-    fn refill(&mut self, rt: &impl Print) {
-        if matches!(self.input, Input::Open) && self.unread().len() < AHEAD {
-            self.input = self.held.fill(&mut *self.reader, &mut *self.piece);
-            if matches!(self.input, Input::Failed) {
-                let _ = rt.write_all(b"unreadable\n");
-            }
-        }
-    }
 }
 
 // The present card: the bytes that it still has, the place in it, and whether the rest is passed over.
@@ -114,6 +89,15 @@ struct Walk<'a, R> {
 }
 
 impl<'a, R: Read> Walk<'a, R> {
+    // Reads on, where too little is ahead. That a read failed is said once: from then on the input is not open.
+    fn refill(&mut self, rt: &impl Print) {
+        let open = matches!(self.source.input, Input::Open);
+        self.source.refill(AHEAD);
+        if open && matches!(self.source.input, Input::Failed) {
+            let _ = rt.write_all(b"unreadable\n");
+        }
+    }
+
     // A card of some bytes begins, with an empty reservoir.
     fn open(&mut self, memory: &mut Memory<'_>, left: usize) {
         self.card = Card { left, ..NO_CARD };
@@ -174,7 +158,7 @@ impl<'a, R: Read> Walk<'a, R> {
 
     // Input and text are seen to; then a card begins, or bytes are passed over, or a frame is tried. Answers whether anything was left to do.
     fn turn(&mut self, rt: &impl Print, memory: &mut Memory<'_>, words: Words) -> bool {
-        self.source.refill(rt);
+        self.refill(rt);
         if self.card.left == 0 {
             return self.begin(memory, words.many);
         }

@@ -26,6 +26,7 @@ fn mate_of(answers: [SlotAnswer; 4], k: usize, channels: usize) -> Option<[u8; 2
     }
 }
 
+#[tactic(auto, using(crate::proofs::Turns::four_at_most))]
 pub(crate) fn slots_from(
     h: FrameHeader,
     i: SideInfo,

@@ -34,12 +34,10 @@ fn read_whole(
     if length < part2 {
         return SlotAnswer::NotRead(Refusal::FactorOverrun);
     }
-    let shares = g.shares;
-    if share_lost(shares, old.is_none()) {
+    if share_lost(g.shares, old.is_none()) {
         return SlotAnswer::NotRead(Refusal::LostShare);
     }
-    let rate = g.rate;
-    match read_huffman(rate, r, main, at + part2, at + length, numbers) {
+    match read_huffman(g.rate, r, main, at + part2, at + length, numbers) {
         Err(why) => SlotAnswer::NotRead(why),
         Ok(count) => {
             let long = f.long;

@@ -160,6 +160,7 @@ fn read_slots_of(
     let Some(rows) = rows.first_chunk_mut::<ROWS>() else {
         return Err(Refusal::UnfitMemory);
     };
+    // a name for the test, which the proof goes by
     let few = numbers.len() < FRAME_NUMBERS;
     if few {
         return Err(Refusal::UnfitMemory);

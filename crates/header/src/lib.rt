@@ -1,7 +1,7 @@
 // A frame's header: read from its first bytes, and which header records bytes read to.
 #![tactic(auto)]
 
-ghost use Rattle.std.specs.Prelude.{◌≡◌, ◌&&◌, ◌<◌, ◌/◌, ◌%◌, leb, length, Err};
+ghost use Rattle.std.specs.Prelude.{◌≡◌, ◌&&◌, ◌<◌, ◌/◌, ◌%◌, leb, length};
 ghost use Rattle.standard.specs.Rows.{member};
 ghost use Rattle.standard.specs.Header.{«bitrates», «rates», same_bitrate, same_rate, is_header, no_header};
 ghost use Rattle.standard.specs.Header.{version_of, channels_of, emphasis_of, «fields», last_bytes, second_byte, header_of};
@@ -11,7 +11,7 @@ use standard::{BitRate, Channels, Emphasis, FrameHeader, MpegVersion, Refusal, S
 
 // ---- reading a header
 
-// Two lists of the standard, which differ in every rate but some: no rule makes one of the other.
+// Two lists of the standard: no rule makes one of the other.
 const MPEG1_BITRATES: [BitRate; 14] = [
     BitRate::Kbps32,
     BitRate::Kbps40,
@@ -143,12 +143,12 @@ fn fields(b1: u8, b2: u8, b3: u8) -> FrameHeader
 }
 
 // The bytes of a header are needed from the first on: the first absent one stands where those that are there end.
-fn no_bytes(frame: &[u8]) -> Result<FrameHeader, Refusal>
+fn absent(frame: &[u8]) -> Refusal
     requires { length frame.now < 6 }
-    ensures { result ≡ Err (Refusal.AbsentBytes (length frame.now)) }
+    ensures { result ≡ Refusal.AbsentBytes (length frame.now) }
 {
     let offset = frame.len() as u16;
-    Err(Refusal::AbsentBytes { offset })
+    Refusal::AbsentBytes { offset }
 }
 
 // The third and fourth byte. The CRC's two bytes are needed last of all.
@@ -173,7 +173,7 @@ fn last_bytes(frame: &[u8]) -> Result<FrameHeader, Refusal>
         return Err(Refusal::ReservedEmphasis);
     }
     if b1 % 2 == 0 && frame.len() < 6 {
-        return no_bytes(frame);
+        return Err(absent(frame));
     }
     Ok(fields(b1, b2, b3))
 }
@@ -198,7 +198,7 @@ fn second_byte(frame: &[u8]) -> Result<FrameHeader, Refusal>
         return Err(Refusal::OtherLayer);
     }
     if frame.len() < 4 {
-        return no_bytes(frame);
+        return Err(absent(frame));
     }
     last_bytes(frame)
 }
@@ -208,20 +208,20 @@ pub fn read_frame_header(frame: &[u8]) -> Result<FrameHeader, Refusal>
     ensures { result ≡ header_of frame.now }
 {
     if frame.len() < 1 {
-        return no_bytes(frame);
+        return Err(absent(frame));
     }
     if frame[0] != 255 {
         return Err(Refusal::NoSync);
     }
     if frame.len() < 2 {
-        return no_bytes(frame);
+        return Err(absent(frame));
     }
     second_byte(frame)
 }
 
 // ---- which headers bytes read to
 
-// Kept beside `(least..=most).contains(&n)`, whose promise is in `partial_cmp`: tried, and the proofs of the rows didn't close.
+// In place of `(least..=most).contains(&n)`, whose promise is in `partial_cmp`: tried, and the proofs of the rows didn't close.
 fn within(n: u32, least: u32, most: u32) -> bool
     ensures { result ≡ (leb least n && leb n most) }
 {

@@ -34,7 +34,8 @@ fn with_sign(word: u64, gone: usize, value: u32) -> Taken<i32>
     Taken { value: z, used }
 }
 
-// A value of a codeword with its escape.
+// A value of a codeword with its escape. That a width is at most 13 stands in three contracts here: it is a plain number to the loops, and a type for it would be
+// made at each codeword.
 fn extent(word: u64, gone: usize, width: usize, value: u32) -> Taken<u32>
     requires { (gone + width < 57) × (width ≤ 13) × (value ≤ 15) }
     ensures { ((s : List ℕ) (p : ℕ) → Ahead word s p → Owns (magnitude_of width value) (Some result) None s (p + gone) result.used) × (result.used ≤ width) × (result.value ≤ 8206) }

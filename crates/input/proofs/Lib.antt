@@ -1,3 +1,3 @@
+mod Came
 mod Reading
-mod Source
 mod Within

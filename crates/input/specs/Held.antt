@@ -1,8 +1,9 @@
 -- The held part of an input. Everything goes by the unread bytes: which they are in lent bytes, and that sliding and filling keep them.
-use Rattle.std.specs.Prelude.{◌≡◌, List, ◌++◌, ℕ, ◌+◌, ◌≤◌, min, length, take, drop}
+use Rattle.std.specs.Prelude.{◌≡◌, List, ◌++◌, ℕ, ◌+◌, ◌<◌, ◌≤◌, min, length, take, drop}
 use Rattle.input.specs.declared.Held.{Held}
 use Rattle.input.specs.declared.Input.{Input}
 use Rattle.input.specs.declared.Input.TheVariants.{Open}
+use Rattle.input.specs.declared.Source.{Source}
 
 -- the lent bytes from `from` up to `end`
 unfoldable pub unread_of : List ℕ → Held → List ℕ
@@ -33,3 +34,7 @@ pub record FilledUp (old : List ℕ) (c r : Held) (i : Input) (left : List ℕ) 
   pub within : r.end ≤ length old
   pub kept : take (length (unread_of old c)) left ≡ unread_of old c
   pub full : i ≡ Open → r.end ≡ length old
+
+-- there may be more of the input, and fewer than so many of its bytes are unread
+abbrev pub IsShort : {R : Type 0} → Source R → ℕ → Type 0
+IsShort s least = (s.input ≡ Open) × (length (unread_of s.piece.now s.held) < least)

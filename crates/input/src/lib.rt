@@ -1,15 +1,15 @@
 // An input of any length, read piece by piece: lent bytes hold a part of it, and a record says which of them are still unread.
 #![tactic(auto)]
 
-ghost use Rattle.std.specs.Prelude.{◌≡◌, ◌≤◌, length, take, drop};
+ghost use Rattle.std.specs.Prelude.{◌≡◌, ◌≤◌, ◌⊎◌, length, take, drop};
 ghost use Rattle.std.specs.Io.KnownBytes.{Consumes, IsAtEnd};
-ghost use Rattle.input.specs.Held.{unread_of, taken_of, Slid, ReadOn, FilledUp};
+ghost use Rattle.input.specs.Held.{unread_of, taken_of, Slid, ReadOn, FilledUp, IsShort};
 ghost use Rattle.input.specs.declared.Input.TheVariants.{Ended};
 
 use lent_bytes::slide;
 use std::io::Read;
 
-// The unread bytes are those from `from` up to `end`.
+// The unread bytes are those from `from` up to `end`. The bytes stay beside it, so that a place is copied and the lent bytes are not.
 #[derive(Clone, Copy)]
 pub struct Held {
     pub from: usize,
@@ -95,5 +95,40 @@ impl Held {
     {
         self.slide(bytes);
         self.read_on(reader, bytes)
+    }
+}
+
+// An input as far as it is read, with lent bytes for a piece of it.
+#[derive(Drop)]
+pub struct Source<'a, R> {
+    pub reader: &'a mut R,
+    pub piece: &'a mut [u8],
+    pub held: Held,
+    pub input: Input,
+}
+
+impl<R> Source<'_, R> {
+    // The bytes that are still unread.
+    pub fn unread(&self) -> &[u8]
+        ensures { result.now ≡ unread_of self.entry.now.piece.now self.entry.now.held }
+    {
+        self.held.unread(self.piece)
+    }
+}
+
+impl<R: Read> Source<'_, R> {
+    // Reads on as `Held::fill` does where the input is open and fewer than so many bytes are unread. Else all is as it was.
+    pub fn refill(&mut self, least: usize)
+        ensures lent { (self.new.reader.ghost_name ≡ self.old.reader.ghost_name)
+            × (self.new.piece.ghost_name ≡ self.old.piece.ghost_name) }
+        ensures same { IsShort self.old least ⊎ (self.new ≡ self.old) }
+        ensures filled { IsShort self.old least → FilledUp self.old.piece.now self.old.held self.new.held self.new.input self.new.piece.now }
+        ensures source { IsShort self.old least → Consumes (R.remaining self.old.reader.now) (R.remaining self.new.reader.now)
+            (drop (length (unread_of self.old.piece.now self.old.held)) (unread_of self.new.piece.now self.new.held)) }
+        ensures ended { IsShort self.old least → self.new.input ≡ Ended → IsAtEnd (R.remaining self.new.reader.now) }
+    {
+        if matches!(self.input, Input::Open) && self.unread().len() < least {
+            self.input = self.held.fill(&mut *self.reader, &mut *self.piece);
+        }
     }
 }

@@ -4,7 +4,7 @@
 ghost use Rattle.std.specs.Prelude.{◌≡◌, ◌-◌, min, length};
 ghost use Rattle.lent_bytes.specs.Put.{Put, slid_of};
 
-// How far two ranges go both.
+// The smaller of two, under a name for callers that have no method for it.
 pub fn least(a: usize, b: usize) -> usize
     ensures { result ≡ min a b }
 {

@@ -1,14 +1,13 @@
 // A number's decimal digits.
-ghost use Rattle.std.specs.Prelude.{◌≡◌, ◌≤◌, length, drop};
+ghost use Rattle.std.specs.Prelude.{◌≡◌, ◌≤◌, drop};
 ghost use Rattle.lines.specs.Text.{decimal_of};
 
 // Digits of the largest number of 64 bits.
-const DIGITS: usize = 20;
+pub(crate) const DIGITS: usize = 20;
 
 // The digits of a number at the end of the lent bytes; answers where they begin.
-pub(crate) fn spell(n: u64, digits: &mut [u8; 20]) -> usize
-    requires { length digits.old ≡ 20 }
-    ensures { (result ≤ 20) × (length digits.new ≡ 20) × (drop result digits.new ≡ decimal_of n) }
+pub(crate) fn spell(n: u64, digits: &mut [u8; DIGITS]) -> usize
+    ensures { (result ≤ 20) × (drop result digits.new ≡ decimal_of n) }
 {
     let mut i = DIGITS;
     let mut rest = n;

@@ -10,7 +10,7 @@ ghost use Rattle.lines.specs.Adds.{Adds};
 ghost use Rattle.lines.specs.Text.{decimal_of, signed_of};
 ghost use Rattle.lines.specs.Said.{frame_line, refused_line, end_line, slot_start, numbers_text, read_end, not_read_end, slot_line, slot_lines};
 
-use crate::decimal::spell;
+use crate::decimal::{DIGITS, spell};
 use derived::number_of;
 use standard::{Refusal, SLOT_NUMBERS, SlotAnswer};
 
@@ -40,7 +40,7 @@ impl<'a> Text<'a> {
     pub fn number(&mut self, n: u64)
         ensures { Adds self.old (decimal_of n) self.new }
     {
-        let mut digits = [0u8; 20];
+        let mut digits = [0u8; DIGITS];
         let from = spell(n, &mut digits);
         self.put(&digits[from..]);
     }

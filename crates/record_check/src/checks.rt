@@ -11,7 +11,7 @@ use standard::{BlockType, MOST_BIG_VALUES, SlotRecord};
 // The patterns of the gains have nothing in their last 21 bits, so that the bits before these tell them, in a row without wide gaps.
 const GAIN_STEP: u32 = 0x0020_0000;
 
-// The number of a gain, 0 to 7, or 8 where it is none: by its pattern, since -0.0 is not 0.0.
+// The number of a gain, 0 to 7, or 8 where it is none, as the definition has it (`gain_number`), so that a bound alone tells: by its pattern, since -0.0 is not 0.0.
 pub fn gain_number(g: f32) -> u8
     ensures { result ≡ gain_number g }
 {

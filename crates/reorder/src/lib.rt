@@ -39,7 +39,7 @@ fn reorder_from(rate: SampleRate, first: usize, numbers: &mut [i32; SLOT_NUMBERS
     }
 }
 
-// The first of the thirteen bands that is a short one: a place, told shape by shape, so that the checker names the clause that a new shape lacks.
+// The first of the thirteen bands that is a short one: a place, and a rule of its own for each shape.
 fn first_short(shape: Shape) -> usize
     ensures { result ≡ first_short shape }
 {

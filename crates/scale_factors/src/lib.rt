@@ -25,7 +25,7 @@ pub struct Factors {
 }
 
 // One factor: granule 0's at every length, or the number that the next bits spell.
-// No struct holds old, s and at: the place is another at each call, so it would be made anew each time.
+// old, s and at stay plain parameters: a struct of the three would be made by one function and taken apart by two.
 #[tactic(auto, unfolding(standard::specs::Told::pick))]
 fn read_factor(g: Group, old: &[u8; 22], i: usize, s: &[u8], at: usize) -> u8
     requires { (g.shared ≡ true → i < 22) × (g.length ≤ 5) }
@@ -86,7 +86,7 @@ fn plan_bits(p: Plan) -> u32
 }
 
 // The factors of a slot that starts at a bit place, `old` being the long ones of its channel in granule 0. What may not share is
-// read without these; read apart, both leave the loops over a slot's numbers faster (docs/PERFORMANCE.md).
+// read without these; two calls, since one for both was measured slower in the loops over a slot's numbers.
 pub fn read_scale_factors(g: Setting, r: SlotRecord, old: [u8; 22], s: &[u8], at: u32) -> Factors
     ensures { (result.bits ≡ plan_bits (sources_of (plan_of g r)))
         × (result.long ≡ long_factors g.mpeg1 (shape_of r) (factors_at g r old s.now at))

@@ -1,30 +1,24 @@
 -- A frame's side information by its layout: where its parts stand among the frame's bits, and what the slots' records decide.
 use Rattle.std.specs.Prelude.{Result, Ok, Err}
 use mathlib.Core.Path.{◌≡◌, refl, sym, ap, ◌∙◌}
-use mathlib.Core.Bool.{Bool, true, false, not, ◌&&◌}
+use mathlib.Core.Bool.{Bool, true, false}
 use mathlib.Core.List.{List, ◌++◌}
-use Prim.Native.Nat.{ℕ, max, ◌+◌, ◌-◌, ◌*◌, ◌≤◌, ◌<◌}
+use Prim.Native.Nat.{ℕ, ◌+◌, ◌-◌, ◌*◌, ◌≤◌}
 use native.Mathlib.Omega.{arith}
-use Rattle.std.proofs.Math.Dec.{ltb}
-use Rattle.std.proofs.lemmas.Bool.{ltb-true, ltb-false}
-use borrow.Author.Tests.{lt-ltb, le-ltb}
-use lib.ListN.{length, take, drop, replicate}
-use Rattle.standard.specs.Told.{pick}
-use Rattle.standard.specs.ToldLaws.{picked, passed, both, told_is}
+use lib.ListN.{take, drop, replicate}
+use Rattle.standard.specs.ToldLaws.{told_is}
 use Rattle.standard.proofs.RefusalsLaws.{apart, one-reason}
 use Rattle.standard.specs.Bits.{bits, field, field_at}
 use Rattle.standard.specs.BitsLaws.{one-le, drop_bits, take-bits, field-bits}
-use Rattle.standard.specs.Header.{is_header, is_mpeg1, is_two, header_size, side_bytes, side_size}
-use Rattle.standard.specs.Crc.{crc_fits}
+use Rattle.standard.specs.Header.{is_mpeg1, is_two, header_size, side_bytes, side_size}
 use Rattle.standard.specs.Record.{record_width}
-use Rattle.standard.specs.SideInfo.{begin_width, shares_at, share_count, slot_count, records_of, then_side, needed_from, absent_from, side_in, side_from, side_under, side_of}
+use Rattle.standard.specs.SideInfo.{begin_width, shares_at, share_count, slot_count, records_of, then_side, side_in}
 use Rattle.standard.specs.declared.FrameHeader.{FrameHeader}
 use Rattle.standard.specs.declared.SlotRecord.{SlotRecord}
 use Rattle.standard.specs.declared.Refusal.{Refusal}
-use Rattle.standard.specs.declared.Refusal.TheVariants.{AbsentBytes, MadeUpRecord, WrongCrc}
 use Rattle.record_check.specs.declared.layout.Layout.{Layout}
 use Rattle.record_check.specs.Layouts.{layout_of}
-use Rattle.side_info.specs.Parts.{filled, side_after}
+use Rattle.side_info.specs.Parts.{filled}
 
 -- ---- the layout
 -- main_data_begin, what is skipped, the sharing bits and the records are all
@@ -127,17 +121,7 @@ module _ (mpeg1 two slow : Bool) (s : List ℕ) (at : ℕ) where
         slots = slots;
       })) (sym e))
 
--- of the bytes from a place on, the first that is absent
-by_test : (from n : ℕ) (b : Bool) → ltb n from ≡ b → max from n ≡ pick b from n
-unfolding pick
-by_test from n true e = omega (arith, ltb-true n from e)
-by_test from n false e = omega (arith, ltb-false n from e)
-
-pub absent-max : (from n : ℕ) → max from n ≡ absent_from from n
-unfolding absent_from
-absent-max from n = by_test from n (ltb n from) refl
-
--- ---- under a header
+-- ---- how far the side information reaches
 pub header_small : (h : FrameHeader) → header_size h ≤ 6
 unfolding header_size
 header_small h = omega (arith, one-le h.crc)
@@ -145,36 +129,3 @@ header_small h = omega (arith, one-le h.crc)
 pub side_small : (h : FrameHeader) → side_size h ≤ 32
 unfolding side_size
 side_small h = few (is_mpeg1 h.version) (is_two h.channels)
-
-module _ (h : FrameHeader) (s : List ℕ) {from size : ℕ} (e : from ≡ header_size h) (f : size ≡ side_size h) where
-  end-is : from + size ≡ header_size h + side_size h
-  end-is = λ j. e j + f j
-
-  pub side_short : length s < from + size → side_under h s ≡ Err (AbsentBytes (absent_from (needed_from h.crc (header_size h)) (length s)))
-  unfolding side_from side_size
-  side_short p = picked _ (lt-ltb (length s) (header_size h + side_size h) (rw end-is at p))
-
-  module _ (p : from + size ≤ length s) where
-    checked : side_under h s ≡ pick (h.crc && not (crc_fits s (from + size))) (Err WrongCrc) (side_after h s)
-    unfolding side_from side_size
-    checked =
-        passed _ (le-ltb (length s) (header_size h + side_size h) (rw end-is at p))
-        ∙ (λ j. pick (h.crc && not (crc_fits s (sym end-is j))) (Err WrongCrc) (side_after h s))
-
-    pub side_wrong : h.crc ≡ true → crc_fits s (from + size) ≡ false → side_under h s ≡ Err WrongCrc
-    side_wrong q r = checked ∙ picked _ (both q (ap not r))
-
-    pub side_unchecked : h.crc ≡ false → side_under h s ≡ side_after h s
-    side_unchecked q = checked ∙ passed _ (ap (λ (b : Bool). b && not (crc_fits s (from + size))) q)
-
-    pub side_fitting : h.crc ≡ true → crc_fits s (from + size) ≡ true → side_under h s ≡ side_after h s
-    side_fitting q r = checked ∙ passed _ ((λ j. q j && not (r j)))
-
-module _ (h : FrameHeader) (s : List ℕ) {b : Bool} (e : b ≡ is_header h) where
-  pub side_made_up : b ≡ false → side_of h s ≡ Err MadeUpRecord
-  unfolding side_of
-  side_made_up f = passed _ (sym e ∙ f)
-
-  pub side_known : b ≡ true → side_of h s ≡ side_under h s
-  unfolding side_of
-  side_known f = picked _ (sym e ∙ f)

@@ -15,7 +15,7 @@ pub mod side;
 mod slot_records;
 
 // The side information under a header, whatever it has: whether bytes read to it is not asked.
-#[tactic(auto, using(crate::proofs::Sides::header_small, crate::proofs::Sides::side_small))]
+#[tactic(auto, using(crate::proofs::Sides::header_small, crate::proofs::Sides::side_small), unfolding(standard::specs::SideInfo::side_from, standard::specs::SideInfo::absent_from, standard::specs::Header::side_size, standard::specs::Told::pick))]
 pub fn side_under(h: FrameHeader, frame: &[u8]) -> Result<SideInfo, Refusal>
     ensures { result ≡ side_under h frame.now }
 {
@@ -32,6 +32,7 @@ pub fn side_under(h: FrameHeader, frame: &[u8]) -> Result<SideInfo, Refusal>
 }
 
 // The side information of a frame under its header, from the frame's bytes, the header's first.
+#[tactic(auto, unfolding(standard::specs::SideInfo::side_of, standard::specs::Told::pick))]
 pub fn read_side_info(h: FrameHeader, frame: &[u8]) -> Result<SideInfo, Refusal>
     ensures { result ≡ side_of h frame.now }
 {

@@ -34,6 +34,7 @@ pub(crate) fn record_width(mpeg1: bool) -> u16
 }
 
 // block_type, of the two bits that spell it; a function, since `standard` holds no code.
+#[tactic(auto, unfolding(standard::specs::Record::block_of))]
 pub(crate) fn block_of(t: u64) -> BlockType
     requires { t < 4 }
     ensures { result ≡ block_of t }
@@ -106,6 +107,7 @@ pub(crate) fn switched_record(k: Common, w: u64, block: BlockType, mixed: bool) 
 }
 
 // The record of a slot that the frame lacks.
+#[tactic(auto, using(crate::proofs::Fields::zero_gain), unfolding(standard::specs::Record::absent))]
 pub(crate) fn absent_record() -> SlotRecord
     ensures { result ≡ absent }
 {
@@ -154,6 +156,7 @@ pub(crate) fn record_of(k: Common, w: u64, slow: bool) -> Result<SlotRecord, Ref
 }
 
 // Read in MPEG-1 only; else it goes by scalefac_compress.
+#[tactic(auto, using(crate::proofs::Fields::preflag_read, crate::proofs::Fields::preflag_follows))]
 pub(crate) fn read_preflag(s: &[u8], at: u16, mpeg1: bool, compress: u16) -> bool
     ensures { compress ≡ field (record_bits mpeg1 s.now at) 29 (compress_width mpeg1)
         → result ≡ preflag_of mpeg1 (record_bits mpeg1 s.now at) }

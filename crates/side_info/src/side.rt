@@ -15,6 +15,7 @@ use record_check::layout::layout_of;
 use standard::{FrameHeader, Refusal, SideInfo};
 
 // What stands for side information where none is told.
+#[tactic(auto, unfolding(standard::specs::SideInfo::no_side))]
 pub fn no_side() -> SideInfo
     ensures { result ≡ «no_side» }
 {
@@ -26,6 +27,7 @@ pub fn no_side() -> SideInfo
 }
 
 // n sharing bits from a place on, and false for the rest of the eight.
+#[tactic(auto, using(crate::proofs::Loops::shares_turn, crate::proofs::Loops::shares_end))]
 pub(crate) fn read_shares(s: &[u8], at: u8, n: usize) -> [bool; 8]
     requires { n ≤ 8 }
     ensures { result ≡ (bits s.now at n ++ replicate (8 - n) false) }

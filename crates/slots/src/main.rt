@@ -3,7 +3,7 @@
 
 use derived::{is_two, why_of};
 use frame::Memory;
-use input::{Held, Input};
+use input::{Held, Input, Source};
 use lines::Text;
 use reservoir::emptied;
 use standard::{FRAME_NUMBERS, Frame, FrameRefusal, Refusal};
@@ -35,33 +35,6 @@ impl fmt::Display for Failure {
     }
 }
 
-// The card as far as it is read, with lent bytes for a piece of it.
-#[derive(Drop)]
-struct Card<'a, R> {
-    reader: &'a mut R,
-    piece: &'a mut [u8],
-    held: Held,
-    input: Input,
-}
-
-impl<'a, R: Read> Card<'a, R> {
-    // Reads on where the next frame might not be whole in what is held.
-    fn refill(&mut self) {
-        if matches!(self.input, Input::Open) && self.unread().len() < LONGEST {
-            self.input = self.held.fill(&mut *self.reader, &mut *self.piece);
-        }
-    }
-
-    fn unread(&self) -> &[u8] {
-        self.held.unread(self.piece)
-    }
-
-    // Bytes that are absent because they could not be read are no refusal.
-    fn failed(&self) -> bool {
-        matches!(self.input, Input::Failed)
-    }
-}
-
 // Writes the text so far, and begins it anew.
 fn write(rt: &impl Print, text: &mut Text<'_>) -> Result<(), Failure> {
     let written = rt.write_all(text.said());
@@ -89,15 +62,17 @@ fn accepted(
 // The n-th frame; answers whether there may be one more.
 fn step<R: Read>(
     rt: &impl Print,
-    card: &mut Card<'_, R>,
+    card: &mut Source<'_, R>,
     memory: &mut Memory<'_>,
     text: &mut Text<'_>,
     n: u64,
 ) -> Result<bool, Failure> {
-    card.refill();
+    card.refill(LONGEST);
+    // Bytes that are absent because they could not be read are no refusal.
+    let failed = matches!(card.input, Input::Failed);
     let frame = card.unread();
     if frame.is_empty() {
-        return if card.failed() {
+        return if failed {
             Err(Failure::Unread)
         } else {
             Ok(false)
@@ -109,9 +84,7 @@ fn step<R: Read>(
             card.held = card.held.taken(read.head.length);
             Ok(true)
         }
-        Err(FrameRefusal::Unread(Refusal::AbsentBytes { .. })) if card.failed() => Err(
-            Failure::Unread,
-        ),
+        Err(FrameRefusal::Unread(Refusal::AbsentBytes { .. })) if failed => Err(Failure::Unread),
         Err(refusal) => {
             text.refused(n, why_of(refusal));
             Ok(false)
@@ -122,7 +95,7 @@ fn step<R: Read>(
 // All frames, and the last line with their number.
 fn walk<R: Read>(
     rt: &impl Print,
-    card: &mut Card<'_, R>,
+    card: &mut Source<'_, R>,
     memory: &mut Memory<'_>,
     text: &mut Text<'_>,
 ) -> Result<(), Failure> {
@@ -142,7 +115,7 @@ fn main(rt: HostRuntime) {
     let mut numbers = [0i32; FRAME_NUMBERS];
     let mut out = [0u8; 65536];
     let mut reader = rt.stdin();
-    let mut card = Card {
+    let mut card = Source {
         reader: &mut reader,
         piece: &mut piece,
         held: Held::blank(),

@@ -253,7 +253,7 @@ granules h = granules_in (is_mpeg1 h.version)
 unfoldable pub channel_count : FrameHeader → ℕ
 channel_count h = channels_in (is_two h.channels)
 
--- what a refused frame's answer has in the place of a header
+-- what stands for a header where none is told
 unfoldable pub no_header : FrameHeader
 no_header =
     record {

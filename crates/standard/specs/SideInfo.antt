@@ -88,7 +88,7 @@ side_under h s = side_from h.crc (is_mpeg1 h.version) (is_two h.channels) (is_sl
 unfoldable pub side_of : FrameHeader → List ℕ → Result SideInfo Refusal
 side_of h s = pick (is_header h) (side_under h s) (Err MadeUpRecord)
 
--- what a refusal's answer has in the place of side information
+-- what stands for side information where none is told
 unfoldable pub no_side : SideInfo
 no_side = record { main_data_begin = 0; scfsi = replicate 8 false; slots = replicate 4 absent }
 

@@ -185,7 +185,7 @@ pub struct Setting {
     pub shares: [bool; 4],
 }
 
-// What became of a slot: read, with its count of numbers up to the last that was coded, its 22 long factors, and three windows of each of
+// What became of a slot, one of three, which an Option of a Result would say less plainly: read, with its count of numbers up to the last that was coded, its 22 long factors, and three windows of each of
 // 13 short bands, one after the other; refused; or one that the frame lacks. The numbers themselves stand in lent memory.
 #[derive(Clone, Copy)]
 pub enum SlotAnswer {

@@ -55,7 +55,7 @@ static SHORT: [[u16; 14]; 9] = [
     [0, 8, 16, 24, 36, 52, 72, 96, 124, 160, 162, 164, 166, 192],
 ];
 
-// A number, since it is the row's; the rates are declared in another order.
+// A number, since it is a row's; `standard`, which declares the rates, has no code for it.
 fn row_of(rate: SampleRate) -> usize
     ensures { result ≡ row_of rate }
 {

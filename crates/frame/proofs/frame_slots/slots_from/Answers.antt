@@ -21,12 +21,6 @@ loop-k-init c = (
   turning_begin _ _ _ _ _ (omega arith) c.lacking_slots-answers.ensures,
 )
 
-pub offset_bounds-i-k : goal.offset_bounds-i-k
-offset_bounds-i-k c = omega (arith, four_at_most c.args.h)
-
-pub bounds-i-k : goal.bounds-i-k
-bounds-i-k c = omega (arith, four_at_most c.args.h)
-
 pub mate_of-old-requires : goal.mate_of-old-requires
 mate_of-old-requires c =
     let h = c.args.h in
@@ -34,42 +28,6 @@ mate_of-old-requires c =
 
 pub setting_of-g-requires : goal.setting_of-g-requires
 setting_of-g-requires c = omega (arith, c.loop-k.invariant.0)
-
-pub overflow_mul-from : goal.overflow_mul-from
-overflow_mul-from c =
-    omega (
-      arith,
-      c.loop-k.invariant.0,
-      four_at_most
-          c.args.h,
-    )
-
-pub overflow_add-end : goal.overflow_add-end
-overflow_add-end c =
-    omega (
-      arith,
-      c.loop-k.invariant.0,
-      four_at_most
-          c.args.h,
-    )
-
-pub offset_bounds-numbers-from : goal.offset_bounds-numbers-from
-offset_bounds-numbers-from c =
-    omega (
-      arith,
-      c.loop-k.invariant.0,
-      four_at_most
-          c.args.h,
-    )
-
-pub slice_bounds-read_slot-count : goal.slice_bounds-read_slot-count
-slice_bounds-read_slot-count c =
-    omega (
-      arith,
-      c.loop-k.invariant.0,
-      four_at_most
-          c.args.h,
-    )
 
 pub read_slot-requires : goal.read_slot-requires
 read_slot-requires c =
@@ -81,24 +39,6 @@ read_slot-requires c =
       q.pairs-le,
       q.length-lt,
       omega (arith, o.invariant.2.near, o.invariant.0, four_at_most a.h),
-    )
-
-pub offset_bounds-answers-k : goal.offset_bounds-answers-k
-offset_bounds-answers-k c =
-    omega (
-      arith,
-      c.loop-k.invariant.0,
-      four_at_most
-          c.args.h,
-    )
-
-pub bounds-answers-k : goal.bounds-answers-k
-bounds-answers-k c =
-    omega (
-      arith,
-      c.loop-k.invariant.0,
-      four_at_most
-          c.args.h,
     )
 
 pub overflow_cast-at : goal.overflow_cast-at

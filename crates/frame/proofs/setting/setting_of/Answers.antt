@@ -6,8 +6,8 @@ pub returns : goal.returns
 unfolding setting_of
 returns c =
     λ j. record {
-      mpeg1 = c.is_mpeg1-mpeg1.ensures j;
-      intensity = c.second_under_intensity-intensity.ensures j;
+      mpeg1 = c.is_mpeg1.ensures j;
+      intensity = c.second_under_intensity.ensures j;
       rate = c.args.h.rate;
       shares = c.shares_of-shares.ensures j;
     }

@@ -1,6 +1,6 @@
--- What was slid is at the front, reading behind it leaves it (Reading), and what lies behind it came from the reader (Source).
+-- What was slid is at the front, reading behind it leaves it (Reading), and what lies behind it came from the reader (Came).
 use Rattle.input.proofs.Reading.{slid_fits, slid_read}
-use Rattle.input.proofs.Source.{slid_from}
+use Rattle.input.proofs.Came.{slid_from}
 use Rattle.input.proofs.Held.fill.Goals as goal
 
 pub read_on-requires : goal.read_on-requires

@@ -1,7 +1,7 @@
--- What a read within the rest leaves (Reading), and what it got (Source).
+-- What a read within the rest leaves (Reading), and what it got (Came).
 use Rattle.std.proofs.Common.{◌≡◌, ◌+◌, ◌≤◌, length, arith}
 use Rattle.input.proofs.Reading.{behind, onward}
-use Rattle.input.proofs.Source.{mid_room, some_from}
+use Rattle.input.proofs.Came.{mid_room, some_from}
 use Rattle.input.proofs.Held.read_on.Goals as goal
 
 pub loop-self-preserved : goal.loop-self-preserved

@@ -1,5 +1,5 @@
 -- The loop's invariant: what was held is as it was, `end` lies between it and the end of the lent bytes (Reading), and what lies
--- between is what came from the reader (Source). Each turn that goes on reads a byte at least.
+-- between is what came from the reader (Came). Each turn that goes on reads a byte at least.
 use Rattle.std.proofs.Common.{◌≡◌, ◌-◌, length, take, drop}
 use Rattle.std.specs.Io.KnownBytes.{Consumes}
 use Rattle.input.proofs.Reading.{Reading}
