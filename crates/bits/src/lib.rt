@@ -19,7 +19,7 @@ pub fn byte(s: &[u8], i: usize) -> u32
     s.get(i).copied().unwrap_or(0) as u32
 }
 
-// Eight bytes that are there, as one number.
+// Eight bytes that are there, as one number. Each by its place: `first_chunk` would ask again whether they are there.
 fn near_eight(s: &[u8], i: usize) -> u64
     requires { i + 8 ≤ length s.now }
     ensures { result ≡ field_at s.now (8 * i) 64 }
@@ -87,5 +87,6 @@ pub fn one(x: bool) -> usize
 pub fn left(at: usize, end: usize) -> usize
     ensures { result ≡ end - at }
 {
+    // one of the library's, kept since it is public and its promise stays
     end.saturating_sub(at)
 }

@@ -5,7 +5,7 @@ use frame::Memory;
 use input::{Held, Input, Source};
 use lines::Text;
 use reservoir::emptied;
-use standard::{FRAME_NUMBERS, Frame, FrameRefusal};
+use standard::{FRAME_NUMBERS, Frame, FrameRefusal, RESERVOIR_BYTES};
 use std::io::Read;
 
 // The longest frame and more: what a try must find held, unless the input has ended.
@@ -192,7 +192,7 @@ pub(crate) fn walk_over<R: Read>(
 ) -> (u64, Output) {
     let mut out = [0u8; 65536];
     let mut piece = [0u8; 65536];
-    let mut bytes = [0u8; 4096];
+    let mut bytes = [0u8; RESERVOIR_BYTES];
     let mut numbers = [0i32; FRAME_NUMBERS];
     let mut memory = Memory {
         bytes: &mut bytes,

@@ -41,6 +41,7 @@ pub(crate) fn slots_from(
     let n = granules(h) * channels;
     let mut answers = lacking_slots();
     let mut at = 0u32;
+    // by number: a slot's own numbers are lent in turn, and of what `chunks_mut` lends a proof knows no element afterwards
     for k in 0..n {
         let r = i.slots[k];
         let old = mate_of(answers, k, channels);

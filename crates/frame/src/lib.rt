@@ -27,6 +27,8 @@ mod frame_slots;
 mod setting;
 mod slot;
 
+// Header and side information stay two, as the calls that are handed them have it. What is lent stays in its parts up to `Memory`, since C lends it so.
+
 // The main data takes its turn with the reservoir, and the slots are read from what is kept.
 fn with_main(
     h: FrameHeader,

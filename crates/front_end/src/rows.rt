@@ -26,6 +26,7 @@ fn put_bytes(row: &mut [u16; ROW], at: usize, bytes: &[u8])
     requires { at + length bytes.now ≤ length row.old }
     ensures { row.new ≡ paste row.old at bytes.now (length bytes.now) }
 {
+    // by number, here and below: of what `iter_mut` or `chunks_mut` lends a proof knows no element afterwards
     for i in 0..bytes.len() {
         row[at + i] = u16::from(bytes[i]);
     }

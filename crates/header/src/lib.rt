@@ -151,7 +151,7 @@ fn absent(frame: &[u8]) -> Refusal
     Refusal::AbsentBytes { offset }
 }
 
-// The third and fourth byte. The CRC's two bytes are needed last of all.
+// The third and fourth byte. The CRC's two bytes are needed last of all. Each of these functions needs another length, so that no one type says it.
 #[tactic(auto, unfolding(standard::specs::Header::last_bytes, standard::specs::Told::pick))]
 fn last_bytes(frame: &[u8]) -> Result<FrameHeader, Refusal>
     requires { 3 < length frame.now }

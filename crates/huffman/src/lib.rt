@@ -41,6 +41,9 @@ pub fn escape_width(table: usize) -> u8
     ESCAPES.get(table).copied().unwrap_or(0)
 }
 
+// Bits are told by s, at and end, plain parameters: who calls needs no type, and the loops move the place alone. No place that is read from exceeds 32 bits,
+// so that no sum wraps.
+
 // The next codeword of a table, from the bit place `at` on and not past `end`.
 pub fn lookup(table: usize, s: &[u8], at: usize, end: usize) -> Result<Taken<u8>, Unread>
     ensures { result ≡ word_of table (between s.now at end) }

@@ -1,4 +1,5 @@
-// Bytes put and moved in lent memory. What finds no room is left out.
+// Bytes put and moved in lent memory. What finds no room is left out. Each function cuts its range to the room by two `min`: a helper would answer both
+// ends, and be no plainer.
 #![tactic(auto)]
 
 ghost use Rattle.std.specs.Prelude.{◌≡◌, ◌-◌, min, length};

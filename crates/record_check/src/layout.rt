@@ -7,7 +7,7 @@ pub struct Layout {
     pub prefix: usize, // bits before the sharing bits
     pub shares: usize, // sharing bits
     pub slots: usize, // slots
-    pub size: usize, // bytes in all
+    pub size: usize, // bytes in all, which the promise says and no reader here asks for
 }
 
 // How side information is laid out, by version and channels.

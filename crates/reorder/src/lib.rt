@@ -18,6 +18,7 @@ fn reorder_band(old: &[i32; SLOT_NUMBERS], numbers: &mut [i32; SLOT_NUMBERS], fr
     requires { from + 3 * w ≤ per_slot }
     ensures { numbers.new ≡ paste numbers.old from (band_numbers from w old.now) (3 * w) }
 {
+    // by number: of what `chunks_mut` lends a proof knows no element afterwards
     for j in 0..w {
         let at = from + 3 * j;
         numbers[at] = old[from + j];

@@ -6,7 +6,7 @@ use frame::Memory;
 use input::{Held, Input, Source};
 use lines::Text;
 use reservoir::emptied;
-use standard::{FRAME_NUMBERS, Frame, FrameRefusal, Refusal};
+use standard::{FRAME_NUMBERS, Frame, FrameRefusal, RESERVOIR_BYTES, Refusal};
 use std::fmt;
 use std::io::Read;
 
@@ -35,7 +35,7 @@ impl fmt::Display for Failure {
     }
 }
 
-// Writes the text so far, and begins it anew.
+// Writes the text so far, and begins it anew. The runtime is handed on beside the text: a struct that held both would name its type in each function.
 fn write(rt: &impl Print, text: &mut Text<'_>) -> Result<(), Failure> {
     let written = rt.write_all(text.said());
     text.at = 0;
@@ -111,7 +111,7 @@ fn walk<R: Read>(
 
 fn main(rt: HostRuntime) {
     let mut piece = [0u8; 65536];
-    let mut bytes = [0u8; 4096];
+    let mut bytes = [0u8; RESERVOIR_BYTES];
     let mut numbers = [0i32; FRAME_NUMBERS];
     let mut out = [0u8; 65536];
     let mut reader = rt.stdin();
