@@ -19,7 +19,7 @@ pub fn byte(s: &[u8], i: usize) -> u32
     s.get(i).copied().unwrap_or(0) as u32
 }
 
-// Eight bytes that are there, as one number. Each by its place: `first_chunk` would ask again whether they are there.
+// Eight bytes that are there, as one number.
 fn near_eight(s: &[u8], i: usize) -> u64
     requires { i + 8 ≤ length s.now }
     ensures { result ≡ field_at s.now (8 * i) 64 }
@@ -83,10 +83,9 @@ pub fn one(x: bool) -> usize
     usize::from(x)
 }
 
-// How many bits are left from one place up to another.
+// How many bits are left from one place up to another. No code here calls it; it is public, and its promise and its edit stay.
 pub fn left(at: usize, end: usize) -> usize
     ensures { result ≡ end - at }
 {
-    // one of the library's, kept since it is public and its promise stays
     end.saturating_sub(at)
 }

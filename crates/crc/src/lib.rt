@@ -27,8 +27,7 @@ const ODD_OF_FOUR: u16 = 0x6996;
 // What comes out last is added again at these three bits.
 const LAST_TAPS: u16 = 0x8003;
 
-// 1 where an odd number of the low eight bits are set. One look into a word of 16 bits;
-// `count_ones` is many instructions on a processor that has none for it.
+// 1 where an odd number of the low eight bits are set.
 fn parity(x: u16) -> u16
     requires { x < 256 }
     ensures { (result ≡ «one» (odd_of (bits_of 8 x))) × (result < 2) }

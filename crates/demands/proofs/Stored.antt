@@ -23,6 +23,7 @@ use Rattle.standard.specs.SideInfo.{is_side}
 use Rattle.standard.specs.declared.FrameHeader.{FrameHeader}
 use Rattle.standard.specs.declared.SideInfo.{SideInfo}
 use Rattle.standard.specs.declared.SlotAnswer.{SlotAnswer}
+use Rattle.standard.specs.declared.Refusal.{Refusal}
 use Rattle.standard.specs.declared.Refusal.TheVariants.{MissingBits}
 use Rattle.standard.specs.declared.Reservoir.{Reservoir}
 use Rattle.standard.specs.declared.Frame.{Frame}
@@ -139,41 +140,34 @@ way_of c = call_way (frame c) (bytes c) (reservoir c).length (length (numbers c)
 
 -- what a frame's answer says, by the step that it is promised to be
 module _ {lent left : List ℕ} {old new : Reservoir} {d nums : List ℤ} {p : Step} {r : Result Frame FrameRefusal} (f : FrameRead lent old d p r new left nums) where
+  -- said of every step
+  said_by : {A : Type 0} (say : Result Frame FrameRefusal → A) (of : Step → A)
+      → ((k : Refusal) → say (frame_answer (no_step k)) ≡ of (no_step k))
+      → ((h : FrameHeader) (i : SideInfo) (bs : List ℕ) → say (frame_answer (short_step h i bs)) ≡ of (short_step h i bs))
+      → ((h : FrameHeader) (i : SideInfo) (bs : List ℕ) → say (frame_answer (full_step h i bs)) ≡ of (full_step h i bs))
+      → say r ≡ of p
+  said_by say of none short full = ap say f.answer ∙ by p
+    where
+      by : (p : Step) → say (frame_answer p) ≡ of p
+      by (no_step k) = none k
+      by (short_step h i bs) = short h i bs
+      by (full_step h i bs) = full h i bs
+
   pub verdict_by : verdict_in r ≡ step_verdict p
   unfolding frame_answer
-  verdict_by = ap verdict_in f.answer ∙ by p
-    where
-      by : (p : Step) → verdict_in (frame_answer p) ≡ step_verdict p
-      by (no_step k) = refl
-      by (short_step h i bs) = refl
-      by (full_step h i bs) = refl
+  verdict_by = said_by verdict_in step_verdict (λ k. refl) (λ h i bs. refl) (λ h i bs. refl)
 
   pub header_by : header_in r ≡ step_header p
   unfolding frame_answer
-  header_by = ap header_in f.answer ∙ by p
-    where
-      by : (p : Step) → header_in (frame_answer p) ≡ step_header p
-      by (no_step k) = refl
-      by (short_step h i bs) = refl
-      by (full_step h i bs) = refl
+  header_by = said_by header_in step_header (λ k. refl) (λ h i bs. refl) (λ h i bs. refl)
 
   pub info_by : info_in r ≡ step_info p
   unfolding frame_answer
-  info_by = ap info_in f.answer ∙ by p
-    where
-      by : (p : Step) → info_in (frame_answer p) ≡ step_info p
-      by (no_step k) = refl
-      by (short_step h i bs) = refl
-      by (full_step h i bs) = refl
+  info_by = said_by info_in step_info (λ k. refl) (λ h i bs. refl) (λ h i bs. refl)
 
   pub answers_by : slots_in r ≡ slots_told (step_slots p)
   unfolding frame_answer slots_told
-  answers_by = ap slots_in f.answer ∙ by p
-    where
-      by : (p : Step) → slots_in (frame_answer p) ≡ slots_told (step_slots p)
-      by (no_step k) = refl
-      by (short_step h i bs) = refl
-      by (full_step h i bs) = refl
+  answers_by = said_by slots_in (λ (q : Step). slots_told (step_slots q)) (λ k. refl) (λ h i bs. refl) (λ h i bs. refl)
 
 pub frame-answered : (c : FrameStep) → Answered (step_slots (step_of c)) (slots_in c.answer) (numbers c) (numbers_after c)
 frame-answered c = record {

@@ -88,7 +88,7 @@ pub fn is_intensity(c: Channels) -> bool
     )
 }
 
-// Which bands a slot's factors and numbers are of. By the two fields and not by the record, since who reads a record asks before there is one.
+// Which bands a slot's factors and numbers are of. By two fields: side information asks before there is a record.
 pub fn shape_of(b: BlockType, mixed: bool) -> Shape
     ensures { result ≡ shape_by b mixed }
 {

@@ -36,7 +36,7 @@ fn put_reordered(text: &mut Text<'_>, h: FrameHeader, r: SlotRecord, numbers: &[
     put_signs(text, b"reordered", &after);
 }
 
-// Which granule and channel a slot is of, and below how many slots there are: for these lines alone; `lines` has its own for the user's, which are proved.
+// Which granule and channel a slot is of.
 #[derive(Clone, Copy)]
 struct Place {
     granule: u64,

@@ -27,7 +27,7 @@ mod frame_slots;
 mod setting;
 mod slot;
 
-// Header and side information stay two, as the calls that are handed them have it. What is lent stays in its parts up to `Memory`, since C lends it so.
+// Below, header and side information stay two as in `read_slots`, and bytes, reservoir and numbers as in `process_frame`, which are public.
 
 // The main data takes its turn with the reservoir, and the slots are read from what is kept.
 fn with_main(

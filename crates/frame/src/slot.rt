@@ -13,6 +13,7 @@ use standard::{Refusal, Setting, SlotAnswer, SlotRecord};
 fn share_lost(shares: [bool; 4], lost: bool) -> bool
     ensures { result ≡ any_of shares && lost }
 {
+    // by `contains`: tried, and what it promises was not proved to be the definition's fold
     (shares[0] | shares[1] | shares[2] | shares[3]) & lost
 }
 

@@ -13,7 +13,7 @@ use Rattle.std.specs.Array.{IsFirstChunk}
 use lib.Seq.{paste, take-append-le, drop-append-le, drop-cons, drop_at, take_all}
 use Rattle.standard.specs.Sizes.{per_frame}
 use Rattle.standard.specs.Told.{verdict_of, told_or, Verdict}
-use Rattle.standard.specs.ToldLaws.{picked, passed, clash, told_is}
+use Rattle.standard.specs.ToldLaws.{picked, passed, clash, told_is, either_left, either_right, neither}
 use Rattle.standard.specs.Refusals.{Answers}
 use Rattle.standard.specs.CopyLaws.{paste_next, paste_whole}
 use Rattle.standard.specs.declared.SlotRecord.{SlotRecord}
@@ -190,13 +190,17 @@ slots-refused {d} {rows = rows} {rs = rs} why e n m l = record {
 }
 
 module _ (s main : List ℕ) (d room : ℕ) where
-  pub slots-unfit : ltb room per_rows || ltb d per_frame ≡ true → slots_step s main d room ≡ Err UnfitMemory
+  pub slots-no_rows : room < per_rows → slots_step s main d room ≡ Err UnfitMemory
   unfolding slots_step
-  slots-unfit h = picked _ h
+  slots-no_rows h = picked _ (either_left _ (lt-ltb room per_rows h))
 
-  pub slots-fit : ltb room per_rows || ltb d per_frame ≡ false → slots_step s main d room ≡ under s (λ (h : FrameHeader) (i : SideInfo). read_slots h i main d)
+  pub slots-few : d < per_frame → slots_step s main d room ≡ Err UnfitMemory
   unfolding slots_step
-  slots-fit h = passed _ h
+  slots-few h = picked _ (either_right _ (lt-ltb d per_frame h))
+
+  pub slots-fit : per_rows ≤ room → per_frame ≤ d → slots_step s main d room ≡ under s (λ (h : FrameHeader) (i : SideInfo). read_slots h i main d)
+  unfolding slots_step
+  slots-fit rows numbers = passed _ (neither (le-ltb room per_rows rows) (le-ltb d per_frame numbers))
 
 -- the records are those of the side information
 pub records-in : (s : List ℕ) {h : FrameHeader} {i : SideInfo} → header_of s ≡ Ok h → side_of h s ≡ Ok i → records_in s ≡ i.slots

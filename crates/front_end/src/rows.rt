@@ -26,7 +26,6 @@ fn put_bytes(row: &mut [u16; ROW], at: usize, bytes: &[u8])
     requires { at + length bytes.now ≤ length row.old }
     ensures { row.new ≡ paste row.old at bytes.now (length bytes.now) }
 {
-    // by number, here and below: of what `iter_mut` or `chunks_mut` lends a proof knows no element afterwards
     for i in 0..bytes.len() {
         row[at + i] = u16::from(bytes[i]);
     }
@@ -54,6 +53,7 @@ fn row_of(r: SlotRecord, a: SlotAnswer) -> [u16; ROW]
 pub(crate) fn put_rows(rows: &mut [u16; ROWS], records: [SlotRecord; 4], slots: [SlotAnswer; 4])
     ensures { (rest : List ℕ) → rows.new ++ rest ≡ rows_from 0 records slots (rows.old ++ rest) }
 {
+    // by number: of what `chunks_mut` lends a proof knows no element afterwards
     for k in 0..4 {
         let at = ROW * k;
         rows[at..at + ROW].copy_from_slice(&row_of(records[k], slots[k]));

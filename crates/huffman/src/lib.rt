@@ -41,8 +41,8 @@ pub fn escape_width(table: usize) -> u8
     ESCAPES.get(table).copied().unwrap_or(0)
 }
 
-// Bits are told by s, at and end, plain parameters: who calls needs no type, and the loops move the place alone. No place that is read from exceeds 32 bits,
-// so that no sum wraps.
+// Bits are told by s, at and end, as `lookup`, `pair` and `quad` are public and promise of the three. `read_huffman` takes its places as u32, so that no sum
+// within it wraps.
 
 // The next codeword of a table, from the bit place `at` on and not past `end`.
 pub fn lookup(table: usize, s: &[u8], at: usize, end: usize) -> Result<Taken<u8>, Unread>

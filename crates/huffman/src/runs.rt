@@ -58,7 +58,6 @@ pub(crate) fn read_pairs(
     let ends = [pairs_before(g.first, n), pairs_before(g.second, n), n];
     let mut at = start;
     let mut done: usize = 0;
-    // by number, which the invariant goes by
     for region in 0..3 {
         let to = ends[region];
         at = read_run(tables[region] as usize, s, at, done, to, out);

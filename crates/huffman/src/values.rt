@@ -1,5 +1,5 @@
 // The numbers that a codeword stands for, with their escapes and signs, out of the word that it was found in. No branch is on a sign, as signs are not to
-// be foreseen. A word stands with how many of its bits are gone, two numbers that stay in registers. What each function owns of the bits (`Owns`) is
+// be foreseen. What each function owns of the bits (`Owns`) is
 // written out in its clause, since each owns another thing.
 ghost use Rattle.std.specs.Prelude.{◌≡◌, List, ℕ, ◌+◌, ◌*◌, ◌/◌, ◌%◌, ◌≤◌, ◌<◌, ◌^◌, eqb};
 ghost use Rattle.standard.specs.Numbers.{magnitude_of, sign_of, «signed», number_in, two_of};

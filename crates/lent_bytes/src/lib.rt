@@ -1,11 +1,11 @@
-// Bytes put and moved in lent memory. What finds no room is left out. Each function cuts its range to the room by two `min`: a helper would answer both
-// ends, and be no plainer.
+// Bytes put and moved in lent memory. What finds no room is left out. `put` and `slide` each cut their range by two `min`: what a helper
+// answered they would still have to add to the place.
 #![tactic(auto)]
 
 ghost use Rattle.std.specs.Prelude.{◌≡◌, ◌-◌, min, length};
 ghost use Rattle.lent_bytes.specs.Put.{Put, slid_of};
 
-// The smaller of two, under a name for callers that have no method for it.
+// The smaller of two. No code here calls it; it is public, and its promise and its edit stay.
 pub fn least(a: usize, b: usize) -> usize
     ensures { result ≡ min a b }
 {

@@ -7,7 +7,7 @@ pub struct Layout {
     pub prefix: usize, // bits before the sharing bits
     pub shares: usize, // sharing bits
     pub slots: usize, // slots
-    pub size: usize, // bytes in all, which the promise says and no reader here asks for
+    pub size: usize, // bytes in all; kept, since the public promise `LaidOut` states it
 }
 
 // How side information is laid out, by version and channels.

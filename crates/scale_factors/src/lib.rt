@@ -73,7 +73,7 @@ fn read_plan(p: Plan, old: &[u8; 22], s: &[u8], at: usize) -> [u8; 36]
     fs
 }
 
-// How many bits the factors of a plan take (part2_length). A `for`: of a `sum` after `map` the bound was not proved.
+// How many bits the factors of a plan take (part2_length). A `for`: `map` and `sum` were tried, and the proof of the bound didn't close.
 fn plan_bits(p: Plan) -> u32
     requires { plan_bits (sources_of p) ≤ 180 }
     ensures { result ≡ plan_bits (sources_of p) }

@@ -11,8 +11,7 @@ use derived::{is_mixed, is_mpeg1, is_slow, shape_of};
 use record_check::given::{compress_width, first_region, second_region};
 use standard::{BlockType, FrameHeader, MOST_BIG_VALUES, Refusal, SlotRecord};
 
-// What every record has, whatever its window. Its seven fields are written in either kind of record: one to take them from by `..` would hold eight more
-// that are not read yet. It stands with the window's bits (w) in each function that needs both, which take it apart at once.
+// What every record has, whatever its window.
 #[derive(Clone, Copy)]
 pub(crate) struct Common {
     pub part2_3_length: u16,

@@ -33,7 +33,6 @@ pub(crate) fn read_shares(s: &[u8], at: u8, n: usize) -> [bool; 8]
     ensures { result ≡ (bits s.now at n ++ replicate (8 - n) false) }
 {
     let mut shares = [false; 8];
-    // by number: of what `iter_mut` lends a proof knows no element afterwards
     for i in 0..n {
         shares[i] = bit(s, at as usize + i);
     }

@@ -24,7 +24,6 @@ pub(crate) fn read_records(
     let w = record_width(is_mpeg1(h.version));
     let mut slots = [absent_record(); 4];
     let mut at = start as u16;
-    // by number: of what `iter_mut` lends a proof knows no element afterwards
     for i in 0..n {
         slots[i] = read_record(h, s, at)?;
         at += w;

@@ -35,7 +35,7 @@ impl fmt::Display for Failure {
     }
 }
 
-// Writes the text so far, and begins it anew. The runtime is handed on beside the text: a struct that held both would name its type in each function.
+// Writes the text so far, and begins it anew.
 fn write(rt: &impl Print, text: &mut Text<'_>) -> Result<(), Failure> {
     let written = rt.write_all(text.said());
     text.at = 0;
