@@ -32,7 +32,7 @@ extern "C" {
 #define FRONT_END_NUMBERS 2304   /* numbers of a frame's slots: FRONT_END_SLOTS x FRONT_END_SLOT */
 #define FRONT_END_ROW 71         /* numbers in a slot's row (front_end_slot) */
 #define FRONT_END_ROWS (FRONT_END_SLOTS * FRONT_END_ROW) /* numbers in the rows of a frame */
-#define FRONT_END_STACK 16384    /* bytes of stack that a call needs, at most; measured are 5,384 (bindings/c/stack.c) */
+#define FRONT_END_STACK 16384    /* bytes of stack that a call needs, at most; measured are 5,208 (bindings/c/stack.c) */
 #define FRONT_END_FRAME 1441     /* bytes of the longest frame: so many, if the card has them, are always enough */
 
 /* ---- answers: 0 where a call is accepted, else one of these */

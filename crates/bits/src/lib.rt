@@ -83,7 +83,7 @@ pub fn one(x: bool) -> usize
     usize::from(x)
 }
 
-// How many bits are left from one place up to another. No code here calls it; it is public, and its promise and its edit stay.
+// How many bits are left from one place up to another.
 pub fn left(at: usize, end: usize) -> usize
     ensures { result ≡ end - at }
 {

@@ -105,14 +105,23 @@ pub fn shape_of(b: BlockType, mixed: bool) -> Shape
 pub fn is_mixed(shape: Shape) -> bool
     ensures { result ≡ is_mixed shape }
 {
-    matches!(shape, Shape::LongThenShort)
+    // here and below a clause for each shape, and no `matches!`: whoever adds a shape is told of both (docs/ARCHITECTURE.md, "Where a change goes")
+    match shape {
+        Shape::AllLong => false,
+        Shape::AllShort => false,
+        Shape::LongThenShort => true,
+    }
 }
 
 // Whether factors may be granule 0's: those of long bands alone (scfsi).
 pub fn may_share(shape: Shape) -> bool
     ensures { result ≡ may_share shape }
 {
-    matches!(shape, Shape::AllLong)
+    match shape {
+        Shape::AllLong => true,
+        Shape::AllShort => false,
+        Shape::LongThenShort => false,
+    }
 }
 
 // Whether the rate is 8 kHz.

@@ -1,4 +1,6 @@
 // A frame's answer as lines of text: a word and numbers, each after a space.
+ghost use Rattle.std.specs.Prelude.{◌≤◌};
+
 use derived::{channel_count, granules, number_of, shape_of};
 use fields::{header_values, record_values, side_values};
 use lines::{Text, part};
@@ -84,8 +86,9 @@ fn put_slot(
             put_row(text, b"long", long);
             put_row(text, b"short", short);
             put_signs(text, b"numbers", part(numbers, 0, *count as usize));
-            if !matches!(shape_of(r.block_type, r.mixed_block_flag), Shape::AllLong) {
-                put_reordered(text, h, r, numbers);
+            match shape_of(r.block_type, r.mixed_block_flag) {
+                Shape::AllLong => {}
+                Shape::AllShort | Shape::LongThenShort => put_reordered(text, h, r, numbers),
             }
         }
     }
@@ -101,7 +104,9 @@ fn put_slots(text: &mut Text<'_>, frame: &Frame, numbers: &[i32]) {
 }
 
 // How many slots a frame has.
-fn slot_count(h: FrameHeader) -> usize {
+fn slot_count(h: FrameHeader) -> usize
+    ensures { result ≤ 4 }
+{
     match (granules(h), channel_count(h)) {
         (1, 1) => 1,
         (1, _) | (_, 1) => 2,

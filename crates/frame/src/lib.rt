@@ -101,7 +101,11 @@ pub fn process_frame(
     let Some(numbers) = numbers.first_chunk_mut::<FRAME_NUMBERS>() else {
         return Err(FrameRefusal::Unread(Refusal::UnfitMemory));
     };
-    let h = read_frame_header(frame).map_err(FrameRefusal::Unread)?;
+    // `let .. else`, and no `?`, is the form that was asked for by name here (docs/DECISIONS.md, Forms)
+    let read = read_frame_header(frame);
+    let Ok(h) = read else {
+        return Err(FrameRefusal::Unread(read.unwrap_err()));
+    };
     with_header(h, frame, bytes, reservoir, numbers)
 }
 

@@ -17,6 +17,7 @@ ghost use Rattle.standard.specs.Numbers.{pair_of, quad_table, quad_of, window_re
 ghost use Rattle.huffman.specs.Slot.{slot_numbers, count_of, numbers_after};
 ghost use Rattle.huffman.specs.Runs.{NumbersRead};
 
+use bits::left;
 use derived::shape_of;
 use find::{VALUES, find, known, root};
 use pairs::find_pair;
@@ -49,7 +50,7 @@ pub fn lookup(table: usize, s: &[u8], at: usize, end: usize) -> Result<Taken<u8>
     ensures { result ≡ word_of table (between s.now at end) }
 {
     let f = find(root(known(table)), ahead(s, at));
-    if end.saturating_sub(at) < f.used {
+    if left(at, end) < f.used {
         return Err(Unread::Cut);
     }
     Ok(Taken {
@@ -65,7 +66,7 @@ pub fn pair(table: usize, s: &[u8], at: usize, end: usize) -> Result<Taken<(i32,
     let link = root(known(table));
     let width = escape_width(table) as usize;
     let b = find_pair(link, width, ahead(s, at));
-    if end.saturating_sub(at) < b.used {
+    if left(at, end) < b.used {
         return Err(Refusal::PairOverrun);
     }
     Ok(b)
@@ -76,7 +77,7 @@ pub fn quad(count1: bool, s: &[u8], at: usize, end: usize) -> Result<Taken<[i32;
     ensures { result ≡ quad_of word_of (quad_table count1) (between s.now at end) }
 {
     let f = find(root(quad_code(count1)), ahead(s, at));
-    if end.saturating_sub(at) < f.used {
+    if left(at, end) < f.used {
         return Err(Unread::Cut);
     }
     let mut value = [0i32; 4];

@@ -6,7 +6,7 @@ ghost use Rattle.std.specs.Io.KnownBytes.{Consumes, IsAtEnd};
 ghost use Rattle.input.specs.Held.{unread_of, taken_of, Slid, ReadOn, FilledUp, IsShort};
 ghost use Rattle.input.specs.declared.Input.TheVariants.{Ended};
 
-use lent_bytes::slide;
+use lent_bytes::{least, slide};
 use std::io::Read;
 
 // The unread bytes are those from `from` up to `end`. The bytes stay beside it, so that a place is copied and the lent bytes are not.
@@ -36,8 +36,8 @@ impl Held {
     pub fn unread(self, bytes: &[u8]) -> &[u8]
         ensures { result.now ≡ unread_of bytes.now self }
     {
-        let end = self.end.min(bytes.len());
-        let from = self.from.min(end);
+        let end = least(self.end, bytes.len());
+        let from = least(self.from, end);
         &bytes[from..end]
     }
 
@@ -56,8 +56,8 @@ impl Held {
     fn slide(&mut self, bytes: &mut [u8])
         ensures { Slid bytes.old self.old self.new bytes.new }
     {
-        let end = self.end.min(bytes.len());
-        let from = self.from.min(end);
+        let end = least(self.end, bytes.len());
+        let from = least(self.from, end);
         slide(bytes, from, end - from);
         *self = Held {
             from: 0,

@@ -22,10 +22,3 @@ room f none long at m {s} {n} p q = elim (dec_le at long) [
       let g : min m (long - at) ≡ 0 = omega arith in
       ap (f s) e ∙ none s at ∙ ap (f at) (sym g)
 ]
-
--- n bytes of a list over k from a place on
-pub written : (old t : List ℕ) (s n k : ℕ) {part : List ℕ} → k ≡ n → part ≡ take n t → put_mid s k old part ≡ paste old s t n
-written old t s n k e p =
-    (λ j. take s old ++ (p j ++ drop (e j) (drop s old)))
-    ∙ sym (append_assoc (take s old) (take n t) (drop n (drop s old)))
-    ∙ ap (λ (x : List ℕ). (take s old ++ take n t) ++ x) (drop-drop n s old)

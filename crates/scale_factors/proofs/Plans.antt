@@ -1,11 +1,11 @@
 -- A slot's plan: that it can be read; and its factors, read over zeros, at their places of the long and of the short ones.
 use mathlib.Core.Path.{◌≡◌, refl, sym, ap, ◌∙◌, subst}
 use mathlib.Core.Bool.{Bool, true, false}
-use mathlib.Core.List.{List, ◌∷◌, ◌++◌, append_assoc}
+use mathlib.Core.List.{List, ◌∷◌, ◌++◌, append_assoc, append-nil}
 use Prim.Native.Nat.{ℕ, zero, suc, ◌+◌, ◌-◌, ◌<◌, ◌≤◌}
 use native.Mathlib.Nat.{sub-zero, zero-sub}
 use native.Mathlib.Omega.{arith}
-use lib.ListN.{length, take, drop, replicate, length-drop}
+use lib.ListN.{length, take, drop, replicate, length-drop, length-take, length-append, length-replicate, replicate-append-replicate}
 use lib.Seq.{sets, take-append-le, drop-append-le, take_at, sets-eq}
 use borrow.Rule.Slice.PartMut.{put_mid}
 use Rattle.std.specs.List.{All}
@@ -13,7 +13,7 @@ use Rattle.standard.specs.ToldLaws.{never}
 use Rattle.standard.specs.Record.{shape_of}
 use Rattle.standard.specs.Bits.{bits}
 use Rattle.standard.specs.Factors.{plan_by, plan_of, sources_of, may_share, plan_bits, factors_from}
-use Rattle.standard.specs.Factors.{long_count, short_count, short_from, factor_count, long_factors, short_factors}
+use Rattle.standard.specs.Factors.{long_count, short_count, short_from, factor_count, long_factors, short_factors, bands_of}
 use Rattle.standard.proofs.FactorsLaws.{few_factors, plan-length, lengths_small, shape_unshares, shape_unshared, plan-factors_length}
 use Rattle.standard.specs.declared.Setting.{Setting}
 use Rattle.standard.specs.declared.SlotRecord.{SlotRecord}
@@ -22,6 +22,7 @@ use Rattle.standard.specs.declared.Plan.{Plan}
 use Rattle.standard.specs.declared.Shape.{Shape}
 use Rattle.standard.specs.declared.Shape.TheVariants.{AllLong, AllShort, LongThenShort}
 use Rattle.scale_factors.specs.Groups.{Fit, filled, factors_at, old_for}
+use Rattle.scale_factors.specs.Flat.{flat_of, flat_bands}
 
 -- only long bands share, and there are no more than granule 0 has
 share_long : (mpeg1 intensity : Bool) (shares : List Bool) (k : Shape) (c : ℕ)
@@ -80,6 +81,21 @@ module _ (mpeg1 : Bool) (k : Shape) (l more : List ℕ) (e : length l ≡ factor
       let left : length (drop n l) ≡ c = omega (arith, length-drop n l) in
       ap (λ (x : List ℕ). zeros (short_from k) ++ x ++ zeros (39 - (short_from k + c)))
       (ap (take c) (drop-append-le n l more (omega arith)) ∙ take_at (drop n l) more c left)
+
+-- laid out in thirteen bands, 39 factors are the same one after the other
+pub bands_back : (fs : List ℕ) (n c from : ℕ) {a : List (List ℕ)} → length fs ≡ 36 → n + c ≤ 36 → from + c ≤ 36
+    → a ≡ bands_of 13 (zeros from ++ take c (drop n fs) ++ zeros (39 - (from + c)))
+    → flat_of a ≡ zeros from ++ take c (drop n fs) ++ zeros (39 - (from + c))
+bands_back fs n c from l h k e =
+    ap flat_of e
+    ∙ flat_bands (zeros from ++ take c (drop n fs) ++ zeros (39 - (from + c))) (simp (length-append, length-replicate, length-take, length-drop) (omega arith))
+
+-- where there are none all is zeros
+pub none_placed : (fs : List ℕ) (n c from : ℕ) → c ≡ 0 → from ≤ 39 → zeros 39 ≡ zeros from ++ take c (drop n fs) ++ zeros (39 - (from + c))
+none_placed fs n c from e h =
+    let p : from + (39 - (from + 0)) ≡ 39 = omega arith in
+    sym (ap (λ (x : List ℕ). x ++ zeros (39 - (from + 0))) (append-nil (zeros from)) ∙ replicate-append-replicate from (39 - (from + 0)) 0 ∙ ap zeros p)
+    ∙ ap (λ (m : ℕ). zeros from ++ take m (drop n fs) ++ zeros (39 - (from + m))) (sym e)
 
 -- what may not share does not go by granule 0
 old_for_lem : (g : Setting) (r : SlotRecord) (old : List ℕ) (b : List Bool) (share : Bool) → share ≡ may_share (shape_of r)

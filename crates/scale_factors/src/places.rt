@@ -1,6 +1,7 @@
 // Where a slot's factors stand, of those that a plan reads and among the 22 and 39 that are told.
 ghost use Rattle.std.specs.Prelude.{◌≡◌, ◌++◌, ◌+◌, ◌-◌, ◌≤◌, take, drop, replicate};
-ghost use Rattle.standard.specs.Factors.{long_count, short_count, short_from};
+ghost use Rattle.standard.specs.Factors.{long_count, short_count, short_from, bands_of};
+ghost use Rattle.scale_factors.specs.Flat.{flat_of};
 
 use standard::Shape;
 
@@ -48,13 +49,45 @@ impl Places {
         long
     }
 
-    // The short factors, those after the long ones, at their places of 39.
-    pub(crate) fn short_of(self, fs: [u8; 36]) -> [u8; 39]
-        ensures { result ≡ replicate self.from 0 ++ take self.short (drop self.long fs) ++ replicate (39 - (self.from + self.short)) 0 }
+    // The short factors, those after the long ones, at their places of thirteen bands.
+    fn bands_of(self, fs: [u8; 36]) -> [[u8; 3]; 13]
+        ensures { result ≡ bands_of 13 (replicate self.from 0 ++ take self.short (drop self.long fs) ++ replicate (39 - (self.from + self.short)) 0) }
     {
         let mut short = [0u8; 39];
         let read = &fs[self.long..self.long + self.short];
         short[self.from..self.from + self.short].copy_from_slice(read);
-        short
+        bands(short)
     }
+
+    // And as they are told, one band after the other. Where there are none the thirteen bands are not gone through.
+    pub(crate) fn short_of(self, fs: [u8; 36]) -> [u8; 39]
+        ensures { result ≡ replicate self.from 0 ++ take self.short (drop self.long fs) ++ replicate (39 - (self.from + self.short)) 0 }
+    {
+        if self.short == 0 {
+            return [0u8; 39];
+        }
+        flat(self.bands_of(fs))
+    }
+}
+
+// Thirteen bands of three windows, built and passed by value: the form that was asked for by name (docs/DECISIONS.md, Forms).
+fn bands(fs: [u8; 39]) -> [[u8; 3]; 13]
+    ensures { result ≡ bands_of 13 fs }
+{
+    let mut a = [[0u8; 3]; 13];
+    for b in 0..13 {
+        a[b] = [fs[3 * b], fs[3 * b + 1], fs[3 * b + 2]];
+    }
+    a
+}
+
+// The thirteen arrays one after the other.
+fn flat(a: [[u8; 3]; 13]) -> [u8; 39]
+    ensures { result ≡ flat_of a }
+{
+    let mut fs = [0u8; 39];
+    for k in 0..39 {
+        fs[k] = a[k / 3][k % 3];
+    }
+    fs
 }

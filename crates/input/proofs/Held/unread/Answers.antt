@@ -3,4 +3,4 @@ use Rattle.input.proofs.Within.{unread_part}
 use Rattle.input.proofs.Held.unread.Goals as goal
 
 pub returns : goal.returns
-returns c = unread_part _ c.args.self _ _ c.min-end.ensures c.min-from.ensures
+returns c = unread_part _ c.args.self _ _ c.least-end.ensures c.least-from.ensures

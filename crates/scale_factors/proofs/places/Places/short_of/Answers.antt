@@ -1,24 +1,19 @@
--- `scale_factors::places::Places::short_of` meets its contract: there is room for all that is put, and zeros are left before it and behind it.
--- Assumes nothing.
-use mathlib.Core.Path.{◌≡◌, ap, ◌∙◌}
-use mathlib.Core.List.{◌++◌}
-use Prim.Native.Nat.{ℕ, ◌+◌, ◌-◌}
+-- `scale_factors::places::Places::short_of` meets its contract: where there are none all is zeros; laid out in bands and flat again, the factors are
+-- the same. Assumes nothing.
+use mathlib.Core.Path.{◌≡◌, ◌∙◌}
 use native.Mathlib.Omega.{arith}
-use lib.ListN.{length, take, drop, replicate, length-drop}
-use lib.Seq.{length-take-le}
+use lib.ListN.{length}
 use borrow.Author.Rules.{rules}
-use borrow.Rule.Slice.PartMut.{put_mid}
-use Rattle.scale_factors.proofs.Plans.{put_in}
+use Rattle.scale_factors.proofs.Plans.{none_placed, bands_back}
 use Rattle.scale_factors.proofs.places.Places.short_of.Goals as goal
+
+pub returns-then-self-eq0 : goal.returns-then-self-eq0
+returns-then-self-eq0 c =
+    let k = c.args.self in
+    none_placed c.args.fs k.long k.short k.from c.if-self-eq0.true (omega (arith, k.few))
 
 pub returns : goal.returns
 returns c =
     let k = c.args.self in
-    let fs = c.args.fs in
-    let many : length fs ≡ 36 = search rules in
-    let d : k.long + k.short - k.long ≡ k.short = omega arith in
-    let part = take k.short (drop k.long fs) in
-    let l : length part ≡ k.short = length-take-le k.short (drop k.long fs) (omega (arith, length-drop k.long fs, k.few)) in
-    ap (put_mid k.from (k.from + k.short - k.from) (replicate 39 0)) (c.copy_from_slice.ensures.after ∙ ap (λ (n : ℕ). take n (drop k.long fs)) d)
-    ∙ put_in k.from (k.from + k.short - k.from) 39 part (omega arith) (omega (arith, k.few))
-    ∙ ap (λ (n : ℕ). replicate k.from 0 ++ part ++ replicate (39 - (k.from + n)) 0) l
+    let many : length c.args.fs ≡ 36 = search rules in
+    c.flat.ensures ∙ bands_back c.args.fs k.long k.short k.from many (omega (arith, k.few)) (omega (arith, k.few)) c.bands_of.ensures
