@@ -43,7 +43,7 @@ pub fn escape_width(table: usize) -> u8
 }
 
 // Bits are told by s, at and end, as `lookup`, `pair` and `quad` are public and promise of the three. `read_huffman` takes its places as u32, so that no sum
-// within it wraps.
+// within it wraps. How many are left is asked of `bits::left`, and no `saturating_sub` of the library, so that its promise and its edit are of what is called.
 
 // The next codeword of a table, from the bit place `at` on and not past `end`.
 pub fn lookup(table: usize, s: &[u8], at: usize, end: usize) -> Result<Taken<u8>, Unread>

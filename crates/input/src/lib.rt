@@ -36,6 +36,7 @@ impl Held {
     pub fn unread(self, bytes: &[u8]) -> &[u8]
         ensures { result.now ≡ unread_of bytes.now self }
     {
+        // `least` here and below, and no `min` of the library: so its promise and its edit are of what runs
         let end = least(self.end, bytes.len());
         let from = least(self.from, end);
         &bytes[from..end]

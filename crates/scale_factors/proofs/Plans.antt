@@ -21,7 +21,7 @@ use Rattle.standard.specs.declared.Group.{Group}
 use Rattle.standard.specs.declared.Plan.{Plan}
 use Rattle.standard.specs.declared.Shape.{Shape}
 use Rattle.standard.specs.declared.Shape.TheVariants.{AllLong, AllShort, LongThenShort}
-use Rattle.scale_factors.specs.Groups.{Fit, filled, factors_at, old_for}
+use Rattle.scale_factors.specs.Groups.{Fit, filled, placed, factors_at, old_for}
 use Rattle.scale_factors.specs.Flat.{flat_of, flat_bands}
 
 -- only long bands share, and there are no more than granule 0 has
@@ -72,8 +72,7 @@ module _ (mpeg1 : Bool) (k : Shape) (l more : List ℕ) (e : length l ≡ factor
   unfolding long_factors
   long-taken = ap (λ (x : List ℕ). x ++ zeros (22 - long_count mpeg1 k)) (take-append-le (long_count mpeg1 k) l more (omega arith))
 
-  short_taken : zeros (short_from k) ++ take (short_count k) (drop (long_count mpeg1 k) (l ++ more)) ++ zeros (39 - (short_from k + short_count k))
-      ≡ short_factors mpeg1 k l
+  short_taken : placed (l ++ more) (long_count mpeg1 k) (short_count k) (short_from k) ≡ short_factors mpeg1 k l
   unfolding short_factors
   short_taken =
       let n = long_count mpeg1 k in
@@ -84,18 +83,17 @@ module _ (mpeg1 : Bool) (k : Shape) (l more : List ℕ) (e : length l ≡ factor
 
 -- laid out in thirteen bands, 39 factors are the same one after the other
 pub bands_back : (fs : List ℕ) (n c from : ℕ) {a : List (List ℕ)} → length fs ≡ 36 → n + c ≤ 36 → from + c ≤ 36
-    → a ≡ bands_of 13 (zeros from ++ take c (drop n fs) ++ zeros (39 - (from + c)))
-    → flat_of a ≡ zeros from ++ take c (drop n fs) ++ zeros (39 - (from + c))
+    → a ≡ bands_of 13 (placed fs n c from) → flat_of a ≡ placed fs n c from
 bands_back fs n c from l h k e =
     ap flat_of e
-    ∙ flat_bands (zeros from ++ take c (drop n fs) ++ zeros (39 - (from + c))) (simp (length-append, length-replicate, length-take, length-drop) (omega arith))
+    ∙ flat_bands (placed fs n c from) (simp (length-append, length-replicate, length-take, length-drop) (omega arith))
 
 -- where there are none all is zeros
-pub none_placed : (fs : List ℕ) (n c from : ℕ) → c ≡ 0 → from ≤ 39 → zeros 39 ≡ zeros from ++ take c (drop n fs) ++ zeros (39 - (from + c))
+pub none_placed : (fs : List ℕ) (n c from : ℕ) → c ≡ 0 → from ≤ 39 → zeros 39 ≡ placed fs n c from
 none_placed fs n c from e h =
     let p : from + (39 - (from + 0)) ≡ 39 = omega arith in
     sym (ap (λ (x : List ℕ). x ++ zeros (39 - (from + 0))) (append-nil (zeros from)) ∙ replicate-append-replicate from (39 - (from + 0)) 0 ∙ ap zeros p)
-    ∙ ap (λ (m : ℕ). zeros from ++ take m (drop n fs) ++ zeros (39 - (from + m))) (sym e)
+    ∙ ap (λ (m : ℕ). placed fs n m from) (sym e)
 
 -- what may not share does not go by granule 0
 old_for_lem : (g : Setting) (r : SlotRecord) (old : List ℕ) (b : List Bool) (share : Bool) → share ≡ may_share (shape_of r)
@@ -130,10 +128,8 @@ module _ (g : Setting) (r : SlotRecord) (old s : List ℕ) (at : ℕ) (p : Plan)
         ∙ (λ j. take (long-many j) (factors_first j) ++ zeros (22 - long-many j))
         ∙ long-taken g.mpeg1 (shape_of r) (factors_at g r old s at) more count
 
-    pub short_read : {l : List ℕ} → l ≡ zeros (short_from k) ++ take (short_count k) (drop n fs) ++ zeros (39 - (short_from k + short_count k))
-        → l ≡ short_factors g.mpeg1 (shape_of r) (factors_at g r old s at)
+    pub short_read : {l : List ℕ} → l ≡ placed fs n (short_count k) (short_from k) → l ≡ short_factors g.mpeg1 (shape_of r) (factors_at g r old s at)
     short_read e =
         e
-        ∙ (λ j. zeros (short_from (shape j)) ++ take (short_count (shape j)) (drop (long-many j) (factors_first j))
-        ++ zeros (39 - (short_from (shape j) + short_count (shape j))))
+        ∙ (λ j. placed (factors_first j) (long-many j) (short_count (shape j)) (short_from (shape j)))
         ∙ short_taken g.mpeg1 (shape_of r) (factors_at g r old s at) more count

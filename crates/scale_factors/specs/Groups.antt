@@ -1,5 +1,5 @@
 -- What is read by a plan.
-use Rattle.std.specs.Prelude.{◌≡◌, All, Bool, true, false, List, ℕ, ◌+◌, ◌<◌, ◌≤◌, length, drop, replicate}
+use Rattle.std.specs.Prelude.{◌≡◌, All, Bool, true, false, List, ◌++◌, ℕ, ◌+◌, ◌-◌, ◌<◌, ◌≤◌, length, take, drop, replicate}
 use Rattle.std.proofs.lemmas.List.Edits.{sets}
 use Rattle.standard.specs.Bits.{bits}
 use Rattle.standard.specs.Factors.{Source, plan_of, sources_of, plan_bits, factors_from}
@@ -21,6 +21,10 @@ old_for false old = replicate 22 0
 -- fs after the factors of a plan, read from a bit place of s on, are written from its i-th place on
 unfoldable pub filled : List ℕ → ℕ → List Source → List ℕ → List ℕ → ℕ → List ℕ
 filled fs i ps old s at = sets fs i (factors_from ps (drop i old) (bits s at (plan_bits ps)))
+
+-- c factors from the n-th on, at the places from `from` on of 39 that are zeros else
+abbrev pub placed : List ℕ → ℕ → ℕ → ℕ → List ℕ
+placed fs n c from = replicate from 0 ++ take c (drop n fs) ++ replicate (39 - (from + c)) 0
 
 -- a group that can be read: its factors are few and of few bits, and granule 0 has what it shares
 pub record Readable (g : Group) (first at : ℕ) : Type 0 where

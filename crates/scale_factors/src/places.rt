@@ -2,6 +2,7 @@
 ghost use Rattle.std.specs.Prelude.{◌≡◌, ◌++◌, ◌+◌, ◌-◌, ◌≤◌, take, drop, replicate};
 ghost use Rattle.standard.specs.Factors.{long_count, short_count, short_from, bands_of};
 ghost use Rattle.scale_factors.specs.Flat.{flat_of};
+ghost use Rattle.scale_factors.specs.Groups.{placed};
 
 use standard::Shape;
 
@@ -51,7 +52,7 @@ impl Places {
 
     // The short factors, those after the long ones, at their places of thirteen bands.
     fn bands_of(self, fs: [u8; 36]) -> [[u8; 3]; 13]
-        ensures { result ≡ bands_of 13 (replicate self.from 0 ++ take self.short (drop self.long fs) ++ replicate (39 - (self.from + self.short)) 0) }
+        ensures { result ≡ bands_of 13 (placed fs self.long self.short self.from) }
     {
         let mut short = [0u8; 39];
         let read = &fs[self.long..self.long + self.short];
@@ -61,7 +62,7 @@ impl Places {
 
     // And as they are told, one band after the other. Where there are none the thirteen bands are not gone through.
     pub(crate) fn short_of(self, fs: [u8; 36]) -> [u8; 39]
-        ensures { result ≡ replicate self.from 0 ++ take self.short (drop self.long fs) ++ replicate (39 - (self.from + self.short)) 0 }
+        ensures { result ≡ placed fs self.long self.short self.from }
     {
         if self.short == 0 {
             return [0u8; 39];

@@ -1,7 +1,8 @@
--- `scale_factors::places::flat` meets its contract. The loop's invariant: the factors that stand, with those of the bands that are left, are all
--- of them. Assumes nothing.
-use Rattle.scale_factors.proofs.Filling.{InCells}
+-- `scale_factors::places::flat` meets its contract. The loop's invariant: k factors stand. Assumes nothing.
+use lib.ListN.{replicate}
+use Rattle.standard.specs.CopyLaws.{Copying}
+use Rattle.scale_factors.specs.Flat.{flat_of}
 use Rattle.scale_factors.proofs.places.flat.Given as goal
 
 abbrev pub invariant-loop-k : goal.invariant-loop-k
-invariant-loop-k l = InCells l.a l.fs l.k
+invariant-loop-k l = Copying (flat_of l.a) (replicate 39 0) l.fs 0 l.k
